@@ -2,7 +2,7 @@
 use Rattle.std.proofs.Common.{ℕ, List, inr}
 use Rattle.program_arguments.specs.Asked.{IsFault}
 use Rattle.program_arguments.specs.declared.asked.JobFault.{JobFault}
-use Rattle.program_arguments.specs.declared.asked.JobFault.TheVariants.{Words, Start, Memory, Tracks, Both, Format, Names, Null, Picture, Difference, Folder, Title, Links}
+use Rattle.program_arguments.specs.declared.asked.JobFault.TheVariants.{Words, Start, Memory, Tracks, Both, Format, Names, Null, Picture, Difference, Folder, Title, Links, Output, Dumps}
 use Rattle.d64_shell.specs.Program.{IsErrorOf}
 
 -- a fault of arguments is an error of them, if it is one of clap's
@@ -20,3 +20,5 @@ of_words words Difference is = tt
 of_words words Folder is = tt
 of_words words Title is = tt
 of_words words Links is = tt
+of_words words Output is = tt
+of_words words Dumps is = tt

@@ -5,8 +5,10 @@ use Rattle.program_surveys.specs.SurveyFiles.{SurveyFiles, Named, files_of}
 use Rattle.program_surveys.specs.Comparisons.{PairRule}
 use Rattle.script_run.specs.Transcript.{Manner}
 use Rattle.cmd_basic.specs.declared.tools.Tool.{Tool}
-use Rattle.program_arguments.specs.declared.asked.Job.TheVariants.{Shell, Petcat, Crunch, Check, Files, Extract, Map, Catalogue, Diff}
+use Rattle.program_arguments.specs.declared.asked.Job.TheVariants.{Shell, Petcat, Crunch, Check, Files, Extract, Map, Catalogue, Diff, Merge}
 use Rattle.program_arguments.specs.declared.asked.Extraction.{Extraction as AskedExtraction}
+use Rattle.program_arguments.specs.declared.asked.Merging.{Merging as AskedMerging}
+use Rattle.program_arguments.specs.declared.asked.DiffForm.{DiffForm}
 use Rattle.program_arguments.specs.declared.asked.Format.{Format}
 use Rattle.program_arguments.specs.declared.asked.Leftovers.{Leftovers}
 use Rattle.program_batch.specs.Answers.{Rule}
@@ -18,6 +20,7 @@ use Rattle.cmd_extract.specs.Setup.{SetupView}
 use Rattle.cmd_map.specs.Pictures.{map_rule}
 use Rattle.cmd_catalogue.specs.Catalogue.{catalogue_rule, catalogue_heading}
 use Rattle.cmd_diff.specs.Differences.{difference_rule}
+use Rattle.cmd_merge.specs.Setup.{SetupView as MergeView}
 use Rattle.cmd_basic.specs.declared.tools.Tool.TheVariants as tools
 use Rattle.cmd_shell.specs.Beginnings.{Beginning, beginning_of, home_of, Source, source_of, refusals_of}
 
@@ -25,20 +28,27 @@ use Rattle.cmd_shell.specs.Beginnings.{Beginning, beginning_of, home_of, Source,
 abbrev pub form_of : Format → Leftovers → Form
 form_of format leftovers = record { format = format; leftovers = leftovers }
 
--- the options of an extraction, by the arguments, and the form of the output
-abbrev pub setup_of : AskedExtraction → Form → SetupView
-setup_of asked form = record { into = string_bytes asked.into; with_parts = asked.part; skips = asked.skip_existing; form = form }
+-- what a merge of these files is asked for by the words, in a form of the output
+abbrev pub merge_setup_of : AskedMerging → DiffForm → List (List ℕ) → MergeView
+merge_setup_of asked form files = record {
+  out = string_bytes asked.output;
+  preference = record { majority = asked.majority; first = asked.first };
+  plain = asked.plain;
+  form = form;
+  names = files;
+}
 
--- what a job does: it runs a script from this source, with these options, from a beginning; runs a
--- tool on the input, or on the host file with a name, to the output, or to the host file with a
--- second name; surveys files by a rule, after a heading; unpacks files with these options, after a
--- heading; or compares the files with two names, by a rule
+-- what a job does: it runs a script of some source in a manner, from a beginning; runs a tool on
+-- the input, or on the host file of a name, to the output, or to the host file of a second name;
+-- surveys files, by a rule, with what stands before all answers; unpacks files, as is asked for,
+-- with what stands before all answers; compares the files of two names, by a rule; or merges files
 pub data JobWork : Type 0 where
   Script : Beginning → Source → Manner → JobWork
   Conversion : Tool → Option (List ℕ) → Option (List ℕ) → JobWork
   Survey : Rule → List ℕ → SurveyFiles → JobWork
   Extraction : SetupView → List ℕ → SurveyFiles → JobWork
   Comparison : PairRule → List ℕ → List ℕ → JobWork
+  Merging : MergeView → JobWork
 
 -- what each job does
 abbrev pub work_of : Job → JobWork
@@ -54,6 +64,7 @@ work_of (Extract asked leftovers format names) =
 work_of (Map format file) = Survey (map_rule format) [] (Named (string_bytes file ∷ []))
 work_of (Catalogue page names) = Survey (catalogue_rule page) (catalogue_heading page) (files_of names)
 work_of (Diff format old new) = Comparison (difference_rule format) (string_bytes old) (string_bytes new)
+work_of (Merge asked format files) = Merging (merge_setup_of asked format (map string_bytes files.items))
 
 -- the work is a script, which reports nothing if it runs to its end
 abbrev pub IsScript : JobWork → Type 0
@@ -62,6 +73,7 @@ IsScript (Conversion tool name target) = ⊥
 IsScript (Survey rule heading files) = ⊥
 IsScript (Extraction setup heading files) = ⊥
 IsScript (Comparison rule old_name new_name) = ⊥
+IsScript (Merging setup) = ⊥
 
 -- the work skips folders that exist, and writes a line about each though all is well
 abbrev pub PassesOver : JobWork → Type 0
@@ -70,3 +82,4 @@ PassesOver (Conversion tool name target) = ⊥
 PassesOver (Survey rule heading files) = ⊥
 PassesOver (Extraction setup heading files) = setup.skips ≡ true
 PassesOver (Comparison rule old_name new_name) = ⊥
+PassesOver (Merging setup) = ⊥

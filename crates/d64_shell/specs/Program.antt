@@ -12,8 +12,9 @@ use Rattle.program_exit.specs.Outside.{Outside}
 use Rattle.program_exit.specs.WordFaults.{ReportsNoJob}
 use Rattle.cmd_basic.specs.ToolRuns.{EndedConversion}
 use Rattle.program_surveys.specs.JobEnds.{EndedSurvey, EndedComparison}
+use Rattle.program_surveys.specs.Merges.{EndedMerge}
 use Rattle.cmd_shell.specs.ShellRuns.{EndedShell}
-use Rattle.d64_shell.specs.Jobs.{JobWork, Script, Conversion, Survey, Extraction, Comparison, work_of, IsScript, PassesOver}
+use Rattle.d64_shell.specs.Jobs.{JobWork, Script, Conversion, Survey, Extraction, Comparison, Merging, work_of, IsScript, PassesOver}
 
 -- how a job with this work ended
 abbrev pub EndedWork : JobWork → Outside → Outside → Account → Account → ℕ → Type 0
@@ -22,6 +23,7 @@ EndedWork (Conversion tool name target) old new faults told status = EndedConver
 EndedWork (Survey rule heading files) old new faults told status = EndedSurvey (by_rule rule) heading files old new faults told status
 EndedWork (Extraction setup heading files) old new faults told status = EndedSurvey (unpacks setup) heading files old new faults told status
 EndedWork (Comparison rule old_name new_name) old new faults told status = EndedComparison rule old_name new_name old new faults told status
+EndedWork (Merging setup) old new faults told status = EndedMerge setup old new faults told status
 
 -- the arguments with the program's name before them
 abbrev pub named_words : List (List ℕ) → List (List ℕ)

@@ -10,6 +10,7 @@ ghost use Rattle.cmd_basic.specs.ToolRuns.{EndedConversion};
 
 use crate::asking::asked;
 use crate::extraction::setup_of;
+use crate::merging::merge_setup_of;
 use cmd_basic::{Tool, ToolJob};
 use cmd_catalogue::CatalogueReport;
 use cmd_check::CheckReport;
@@ -20,7 +21,7 @@ use cmd_shell::{ShellJob, exit_status, refusals_of};
 use host_storage::{Host, HostFault};
 use program_arguments::Job;
 use program_exit::{NOT_RUN, report_no_job};
-use program_surveys::{DifferenceJob, FileNames, SurveyJob};
+use program_surveys::{DifferenceJob, FileNames, MergeJob, SurveyJob};
 use script_run::{Listener, Nobody};
 use script_text::input::InputStream;
 use script_text::output::OutputStream;
@@ -288,6 +289,14 @@ impl<'l, L: Listener> HeardProgram<'l, L> {
                 DifferenceJob::new(alloc, format, old.as_str(), new.as_str()).run(
                     output, faults, host,
                 )
+            }
+            Job::Merge {
+                merging,
+                format,
+                files,
+            } => {
+                let setup = merge_setup_of(merging, format, files);
+                MergeJob::new(alloc, &setup).run(output, faults, host)
             }
         }
     }

@@ -5,6 +5,7 @@
 mod asking;
 mod entry;
 mod extraction;
+mod merging;
 
 pub use cmd_basic::{ToolFault, crunch_run, petcat_run};
 pub use d64_dos::{Command, Refusal, Reply};

@@ -116,7 +116,7 @@ fn is_survey(argument: Option<&String>) -> bool {
     match argument {
         Some(argument) => matches!(
             argument.as_str(),
-            "check" | "files" | "extract" | "map" | "catalogue" | "diff"
+            "check" | "files" | "extract" | "map" | "catalogue" | "diff" | "merge"
         ),
         None => false,
     }

@@ -1,2 +1,3 @@
 pub mod SurveyRuns
 mod ComparisonRuns
+pub mod MergeRuns

@@ -149,11 +149,25 @@ impl<'n> DifferenceJob<'n> {
         ensures memory { IfErr result (λ fault. (fault ≡ DifferenceFault.Memory)
             × (H.state host.new ≡ H.state host.old)) }
     {
-        match host.fetch(self.alloc, name, FILE_BYTES) {
-            Ok(bytes) => Ok(Ok(bytes)),
-            Err(HostFault::Memory(_)) => Err(DifferenceFault::Memory),
-            Err(fault) => Ok(Err(reason_of(host, name, fault))),
-        }
+        read_contents(self.alloc, name, host)
+    }
+}
+
+/// The bytes of a file of the host, or why it cannot be read, as far as the host can say.
+pub(crate) fn read_contents<H: Host>(
+    alloc: Global,
+    name: &str,
+    host: &mut H,
+) -> Result<Result<Vec<u8>, Option<Reason>>, DifferenceFault>
+    ensures read { IfOk result (λ contents. IsReadAs name.now (H.state host.old)
+        (contents_by (λ bytes. bytes.items) contents) (H.state host.new)) }
+    ensures memory { IfErr result (λ fault. (fault ≡ DifferenceFault.Memory)
+        × (H.state host.new ≡ H.state host.old)) }
+{
+    match host.fetch(alloc, name, FILE_BYTES) {
+        Ok(bytes) => Ok(Ok(bytes)),
+        Err(HostFault::Memory(_)) => Err(DifferenceFault::Memory),
+        Err(fault) => Ok(Err(reason_of(host, name, fault))),
     }
 }
 

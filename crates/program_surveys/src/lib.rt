@@ -1,5 +1,5 @@
 //! Running `check`, `files`, `extract`, `map` and `catalogue` over the files of the arguments or of
-//! a list, and `diff` over two, each to its exit status.
+//! a list, `diff` over two, and `merge` over several, each to its exit status.
 //!
 //! A crate apart from `d64_shell` for the gate's time: `d64_shell` needs every library; what is
 //! here needs few, so it is proved, and its wrong bodies are tried, beside the crates of the other
@@ -8,8 +8,10 @@
 
 mod difference_job;
 mod file_names;
+mod merge_job;
 mod survey_job;
 
 pub use difference_job::DifferenceJob;
 pub use file_names::FileNames;
+pub use merge_job::MergeJob;
 pub use survey_job::SurveyJob;

@@ -1,0 +1,23 @@
+//! What the arguments of `merge` ask for.
+ghost use Rattle.std.specs.Prelude.{◌≡◌, map, string_bytes};
+ghost use Rattle.d64_shell.specs.Jobs.{merge_setup_of};
+
+use cmd_merge::Setup;
+use d64_merge::Preference;
+use program_arguments::{DiffForm, Merging};
+
+/// What a merge of these files is asked for by the words, in a form of the output.
+pub(crate) fn merge_setup_of(asked: Merging, form: DiffForm, files: Vec<String>) -> Setup
+    ensures { result ≡ merge_setup_of asked form (map string_bytes files.items) }
+{
+    Setup {
+        out: asked.output,
+        preference: Preference {
+            majority: asked.majority,
+            first: asked.first,
+        },
+        plain: asked.plain,
+        form,
+        names: files,
+    }
+}

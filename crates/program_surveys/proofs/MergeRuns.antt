@@ -1,0 +1,54 @@
+-- What a merge leaves, by what its steps leave.
+use Rattle.std.proofs.Common.{◌≡◌, ◌<◌, ◌≤◌, ◌+◌, ℕ, List, [], ◌∷◌, Result, Ok, Err, length, map, drop, drop-cons, refl, sym, ap, ◌∙◌, subst, suc, arith}
+use Rattle.std.specs.Prelude.{slice_index_or, String, string_bytes}
+use Rattle.std.proofs.lemmas.List.{drop_all}
+use Rattle.script_text.specs.Output.{Account}
+use Rattle.host_storage.specs.Files.{HostState}
+use Rattle.program_arguments.specs.declared.asked.DiffForm.{DiffForm}
+use Rattle.cmd_merge.specs.Setup.{SetupView}
+use Rattle.cmd_merge.specs.Reports.{ReadingsView}
+use Rattle.program_batch.specs.Runs.{Stand}
+use Rattle.program_surveys.specs.Merges.{ReadsFiles, Merges, EndedMerge}
+use Rattle.program_surveys.specs.JobEnds.{TellsComparison, first_stand}
+use Rattle.program_exit.specs.Outside.{Outside}
+use Rattle.program_surveys.specs.declared.difference_job.DifferenceFault.{DifferenceFault}
+
+-- one file was read, and then the others
+pub reads_next : (form : DiffForm) (name : List ℕ) (names : List (List ℕ)) (old middle new : HostState) (begun between read : ReadingsView)
+    → ReadsFiles form (name ∷ []) old begun middle between → ReadsFiles form names middle between new read → ReadsFiles form (name ∷ names) old begun new read
+unfolding ReadsFiles
+reads_next form name names old middle new begun between read first rest =
+    let last = first.3 in
+    (first.0, first.1, first.2, subst (λ (host : HostState). ReadsFiles form names host _ new read) last.0 (subst (λ (r : ReadingsView). ReadsFiles form names middle r new read) last.1 rest))
+
+-- of files from a place on, one was read, and then the others
+pub files_left : {Z : Type 0} (form : DiffForm) (names : List (String Z)) (place : ℕ) (name : String Z) (old middle new : HostState) (begun between read : ReadingsView)
+    → place < length names → name ≡ slice_index_or names place name
+    → ReadsFiles form (string_bytes name ∷ []) old begun middle between → ReadsFiles form (map string_bytes (drop (place + 1) names)) middle between new read
+    → ReadsFiles form (map string_bytes (drop place names)) old begun new read
+files_left form names place name old middle new begun between read less is first rest =
+    let e : place + 1 ≡ suc place = omega arith in
+    let split : drop place names ≡ name ∷ drop (suc place) names = drop-cons names place name less ∙ ap (λ n. n ∷ drop (suc place) names) (sym is) in
+    subst (λ (xs : List _). ReadsFiles form (map string_bytes xs) old begun new read) (sym split)
+    (reads_next form (string_bytes name) (map string_bytes (drop (suc place) names)) old middle new begun between read first
+    (subst (λ (k : ℕ). ReadsFiles form (map string_bytes (drop k names)) middle between new read) e rest))
+
+pub no_files_left : {Z : Type 0} (form : DiffForm) (names : List (String Z)) (place : ℕ) (host : HostState) (readings : ReadingsView)
+    → length names ≤ place → ReadsFiles form (map string_bytes (drop place names)) host readings host readings
+unfolding ReadsFiles
+no_files_left form names place host readings past =
+    subst (λ (xs : List _). ReadsFiles form (map string_bytes xs) host readings host readings) (sym (drop_all place names past)) (refl, refl)
+
+-- a merge that began with nothing amiss has ended as its run has
+pub merge_ended : (setup : SetupView) (old new : Outside) (faults told : Account) (status : ℕ) (ended : Result (Unit {0}) DifferenceFault) (first last : Stand)
+    → first ≡ first_stand old faults → Merges setup first last ended → new.reader ≡ old.reader → new.host ≡ last.host
+    → new.output ≡ last.told.output → TellsComparison ended last.told told status → EndedMerge setup old new faults told status
+merge_ended setup old new faults told status ended first last is ran reader host output tells = record {
+  ended = ended;
+  last = last;
+  merged = subst (λ (s : Stand). Merges setup s last ended) is ran;
+  reader = reader;
+  host = host;
+  output = output;
+  tells = tells;
+}

@@ -1,0 +1,59 @@
+-- How a merge of files ends.
+use Rattle.std.specs.Prelude.{◌≡◌, ◌⊎◌, ℕ, Bool, List, [], ◌∷◌, MatchBool, Option, Result, Ok, Err}
+use Rattle.script_text.specs.Output.{Account}
+use Rattle.host_storage.specs.Files.{HostState}
+use Rattle.host_storage.specs.Folders.{Looks}
+use Rattle.host_storage.specs.declared.host.FolderFault.{FolderFault}
+use Rattle.program_batch.specs.Answers.{Answer}
+use Rattle.program_batch.specs.Runs.{IsCut, IsTold, Stand}
+use Rattle.program_arguments.specs.declared.asked.DiffForm.{DiffForm}
+use Rattle.cmd_diff.specs.Differences.{Contents}
+use Rattle.cmd_merge.specs.Setup.{SetupView}
+use Rattle.cmd_merge.specs.Reports.{ReadingsView, no_readings, with_file, present_answer}
+use Rattle.cmd_merge.specs.Finishing.{Finishes, IsMade}
+use Rattle.program_surveys.specs.Comparisons.{IsReadAs}
+use Rattle.program_surveys.specs.JobEnds.{TellsComparison, first_stand}
+use Rattle.program_surveys.specs.declared.difference_job.DifferenceFault.{DifferenceFault}
+use Rattle.program_surveys.specs.declared.difference_job.DifferenceFault.TheVariants.{Write, Memory}
+use Rattle.program_exit.specs.Outside.{Outside}
+
+-- the files of these names were read, one after another, each added to what was read before
+unfoldable pub ReadsFiles : DiffForm → List (List ℕ) → HostState → ReadingsView → HostState → ReadingsView → Type 0
+ReadsFiles form [] old begun new read = (new ≡ old) × (read ≡ begun)
+ReadsFiles form (name ∷ names) old begun new read =
+    (contents : Contents) × (middle : HostState) × IsReadAs name old contents middle × ReadsFiles form names middle (with_file form name contents begun) new read
+
+-- all files were read, and the merge ended with this answer
+pub record MergesRead (setup : SetupView) (old : HostState) (answer : Answer) (new : HostState) : Type 0 where
+  pub middle : HostState
+  pub readings : ReadingsView
+  pub read : ReadsFiles setup.form setup.names old no_readings middle readings
+  pub finished : Finishes setup readings middle answer new
+
+-- the file that is to be made was looked for: it was there, and nothing else was done; or it wasn't
+abbrev pub AnswersMerge : SetupView → HostState → Answer → HostState → Type 0
+AnswersMerge setup old answer new =
+    (there : Bool) × Looks old.files setup.out there × MatchBool there ((new ≡ old) × (answer ≡ present_answer setup)) (MergesRead setup old answer new)
+
+-- how far it came where there was no memory: no file was changed, but that the one to be made may
+-- have been, whole
+abbrev pub CameSoFar : SetupView → HostState → HostState → Type 0
+CameSoFar setup old new =
+    (middle : HostState) × (middle.files ≡ old.files)
+    × ((new ≡ middle) ⊎ ((bytes : List ℕ) × (result : Result (Unit {0}) FolderFault) × IsMade setup.out bytes middle result new))
+
+-- how a merge ends: its answer was told, or the output failed while it was, or there was no memory
+abbrev pub Merges : {A : Type 0} → SetupView → Stand → Stand → Result A DifferenceFault → Type 0
+Merges setup first last (Ok done) = (answer : Answer) × AnswersMerge setup first.host answer last.host × IsTold answer first.told last.told
+Merges setup first last (Err Write) = (answer : Answer) × AnswersMerge setup first.host answer last.host × IsCut answer first.told last.told
+Merges setup first last (Err Memory) = CameSoFar setup first.host last.host × (last.told ≡ first.told)
+
+-- a merge has ended, for which nothing of the input was read
+pub record EndedMerge (setup : SetupView) (old new : Outside) (faults told : Account) (status : ℕ) : Type 0 where
+  pub ended : Result (Unit {0}) DifferenceFault
+  pub last : Stand
+  pub merged : Merges setup (first_stand old faults) last ended
+  pub reader : new.reader ≡ old.reader
+  pub host : new.host ≡ last.host
+  pub output : new.output ≡ last.told.output
+  pub tells : TellsComparison ended last.told told status

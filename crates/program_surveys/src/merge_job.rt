@@ -1,0 +1,145 @@
+//! The run of `merge`: one file of the dumps of several.
+ghost use Rattle.std.specs.Prelude.{◌≡◌, ◌≤◌, ℕ, List, Option, IfErr, IfOk, OnOk, [], ◌∷◌, map, string_bytes, true, false};
+ghost use Rattle.script_text.specs.Input.{Reading};
+ghost use Rattle.program_batch.specs.Answers.{answer_of};
+ghost use Rattle.program_batch.specs.Runs.{account_at, stand_at};
+ghost use Rattle.program_batch.specs.declared.report.Verdict.TheVariants.{Clean};
+ghost use Rattle.program_surveys.specs.Merges.{AnswersMerge, CameSoFar, EndedMerge, Merges, ReadsFiles};
+ghost use Rattle.program_exit.specs.Outside.{outside_of};
+
+use crate::difference_job::{DifferenceFault, read_contents};
+use cmd_merge::{Readings, Setup, finish, say_present};
+use host_storage::Host;
+use program_batch::{AnswerRoom, Desk, Verdict};
+use program_exit::ProgramFault;
+use script_text::output::OutputStream;
+use std::alloc::Global;
+use std::io::Write;
+
+/// A merge of the dumps of files.
+#[derive(Drop)]
+pub struct MergeJob<'n> {
+    alloc: Global,
+    setup: &'n Setup,
+}
+
+impl<'n> MergeJob<'n> {
+    /// A merge that is asked for so.
+    pub fn new(alloc: Global, setup: &'n Setup) -> MergeJob<'n>
+        ensures { result.setup.now ≡ setup.now }
+    {
+        MergeJob { alloc, setup }
+    }
+
+    /// Reads all files, makes the file of their merged dump, prints what became of its blocks, and
+    /// returns the exit status: 0 where each block has a good copy, 1 where one is lost, taken from
+    /// the first good copy, or in conflict, and 2 where the file is there already or cannot be
+    /// made, one of the others is no dump or cannot be read, the output takes no more bytes, or
+    /// memory is wanting.
+    pub fn run<W: Write, F: Write, H: Host>(
+        &self,
+        output: &mut OutputStream<'_, W>,
+        faults: &mut OutputStream<'_, F>,
+        host: &mut H,
+    ) -> u8
+        requires unfailed { output.old.has_failed ≡ false }
+        ensures output { output.new.writer.ghost_name ≡ output.old.writer.ghost_name }
+        ensures faults { faults.new.writer.ghost_name ≡ faults.old.writer.ghost_name }
+        ensures status { result ≤ 2 }
+        ensures ended { (reader : Option (List ℕ)) (reading : Reading) → EndedMerge self.now.setup.now
+            (outside_of reader reading (account_at W.contents output.old) (H.state host.old))
+            (outside_of reader reading (account_at W.contents output.new) (H.state host.new))
+            (account_at F.contents faults.old) (account_at F.contents faults.new) result }
+        ensures delivered { result ≡ 0 → (output.new.is_delivered ≡ true) × (output.new.has_failed ≡ false) }
+        ensures silent { result ≡ 0 → faults.new ≡ faults.old }
+    {
+        let mut desk = Desk::new(self.alloc);
+        match self.merge(&mut desk, output, faults, host) {
+            Ok(()) => desk.worst().exit_status(),
+            Err(DifferenceFault::Write) => ProgramFault::Write.report_on(faults),
+            Err(DifferenceFault::Memory) => ProgramFault::Memory.report_on(faults),
+        }
+    }
+
+    /// Merges the files, and tells of it at a desk.
+    fn merge<W: Write, F: Write, H: Host>(
+        &self,
+        desk: &mut Desk,
+        output: &mut OutputStream<'_, W>,
+        faults: &mut OutputStream<'_, F>,
+        host: &mut H,
+    ) -> Result<(), DifferenceFault>
+        ensures output { output.new.writer.ghost_name ≡ output.old.writer.ghost_name }
+        ensures faults { faults.new.writer.ghost_name ≡ faults.old.writer.ghost_name }
+        ensures delivered { OnOk result (output.new.is_delivered ≡ true) }
+        ensures unfailed { OnOk result (output.new.has_failed ≡ output.old.has_failed) }
+        ensures silent { desk.new.worst ≡ Clean → faults.new ≡ faults.old }
+        ensures merged { Merges self.now.setup.now
+            (stand_at H.state host.old W.contents output.old F.contents faults.old desk.old.worst)
+            (stand_at H.state host.new W.contents output.new F.contents faults.new desk.new.worst) result }
+    {
+        let verdict = self.answer(&mut desk.room, host)?;
+        desk.tell(verdict, output, faults)?;
+        Ok(())
+    }
+
+    /// Looks for the file that is to be made, reads the others, makes it, and puts into the room
+    /// what is said.
+    ///
+    /// It is a call of its own: each job would else take room for the dumps.
+    #[inline(never)]
+    fn answer<H: Host>(
+        &self,
+        room: &mut AnswerRoom,
+        host: &mut H,
+    ) -> Result<Verdict, DifferenceFault>
+        ensures answered { IfOk result (λ verdict. AnswersMerge self.now.setup.now (H.state host.old)
+            (answer_of room.new.printed.items room.new.complaint.items verdict) (H.state host.new)) }
+        ensures quiet { IfOk result (λ verdict. verdict ≡ Clean → room.new.complaint.items ≡ []) }
+        ensures memory { IfErr result (λ fault. (fault ≡ DifferenceFault.Memory) × CameSoFar self.now.setup.now (H.state host.old) (H.state host.new)) }
+    {
+        let setup = self.setup;
+        if host.is_there(&setup.out) {
+            return Ok(say_present(setup, room)?);
+        }
+        let mut readings = Readings::new(self.alloc);
+        match self.read_all(&setup.names, &mut readings, host) {
+            Ok(()) => Ok(finish(self.alloc, setup, &readings, host, room)?),
+            Err(fault) => Err(fault),
+        }
+    }
+
+    /// Reads the files of these names.
+    fn read_all<H: Host>(
+        &self,
+        names: &[String],
+        readings: &mut Readings,
+        host: &mut H,
+    ) -> Result<(), DifferenceFault>
+        ensures read { OnOk result (ReadsFiles self.now.setup.now.form (map string_bytes names.now) (H.state host.old) readings.old (H.state host.new) readings.new) }
+        ensures files { (H.state host.new).files ≡ (H.state host.old).files }
+        ensures memory { IfErr result (λ fault. fault ≡ DifferenceFault.Memory) }
+    {
+        for name in names {
+            self.read_one(name, readings, host)?;
+        }
+        Ok(())
+    }
+
+    /// Reads one of them.
+    fn read_one<H: Host>(
+        &self,
+        name: &String,
+        readings: &mut Readings,
+        host: &mut H,
+    ) -> Result<(), DifferenceFault>
+        ensures read { OnOk result (ReadsFiles self.now.setup.now.form (string_bytes name.now ∷ []) (H.state host.old) readings.old (H.state host.new) readings.new) }
+        ensures files { (H.state host.new).files ≡ (H.state host.old).files }
+        ensures memory { IfErr result (λ fault. fault ≡ DifferenceFault.Memory) }
+    {
+        let setup = self.setup;
+        let contents = read_contents(self.alloc, name, host)?;
+        readings.add(setup.form, name.as_bytes(), contents)?;
+        Ok(())
+    }
+}
