@@ -48,6 +48,7 @@ SWEEPS = [
     "scripts/sweep-sessions",
     "scripts/sweep-surveys",
     "scripts/sweep-g64",
+    "scripts/sweep-merge",
     "scripts/check-schema",
     "scripts/sweep-differences",
     "scripts/sweep-catalogue",
