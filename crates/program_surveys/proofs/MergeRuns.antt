@@ -1,14 +1,16 @@
 -- What a merge leaves, by what its steps leave.
-use Rattle.std.proofs.Common.{◌≡◌, ◌<◌, ◌≤◌, ◌+◌, ℕ, List, [], ◌∷◌, Result, Ok, Err, length, map, drop, drop-cons, refl, sym, ap, ◌∙◌, subst, suc, arith}
-use Rattle.std.specs.Prelude.{slice_index_or, String, string_bytes}
+use Rattle.std.proofs.Common.{◌≡◌, ◌<◌, ◌≤◌, ◌+◌, ℕ, List, [], ◌∷◌, Option, Some, None, Result, Ok, Err, inl, inr, length, map, drop, drop-cons, refl, sym, ap, ◌∙◌, subst, suc, arith}
+use Rattle.std.specs.Prelude.{slice_index_or, IfErr, String, string_bytes}
 use Rattle.std.proofs.lemmas.List.{drop_all}
 use Rattle.script_text.specs.Output.{Account}
 use Rattle.host_storage.specs.Files.{HostState}
 use Rattle.program_arguments.specs.declared.asked.DiffForm.{DiffForm}
 use Rattle.cmd_merge.specs.Setup.{SetupView}
-use Rattle.cmd_merge.specs.Reports.{ReadingsView}
+use Rattle.cmd_merge.specs.Reports.{ReadingsView, with_file}
 use Rattle.program_batch.specs.Runs.{Stand}
-use Rattle.program_surveys.specs.Merges.{ReadsFiles, Merges, EndedMerge}
+use Rattle.cmd_merge.specs.Finishing.{MayHaveMade}
+use Rattle.program_surveys.specs.Merges.{ReadsFiles, CameSoFar, Merges, EndedMerge}
+use Rattle.program_surveys.specs.declared.difference_job.DifferenceFault.TheVariants.{Memory}
 use Rattle.program_surveys.specs.JobEnds.{TellsComparison, first_stand}
 use Rattle.program_exit.specs.Outside.{Outside}
 use Rattle.program_surveys.specs.declared.difference_job.DifferenceFault.{DifferenceFault}
@@ -19,7 +21,7 @@ pub reads_next : (form : DiffForm) (name : List ℕ) (names : List (List ℕ)) (
 unfolding ReadsFiles
 reads_next form name names old middle new begun between read first rest =
     let last = first.3 in
-    (first.0, first.1, first.2, subst (λ (host : HostState). ReadsFiles form names host _ new read) last.0 (subst (λ (r : ReadingsView). ReadsFiles form names middle r new read) last.1 rest))
+    (first.0, first.1, first.2, subst (λ (host : HostState). ReadsFiles form names host (with_file form name first.0 begun) new read) last.0 (subst (λ (r : ReadingsView). ReadsFiles form names middle r new read) last.1 rest))
 
 -- of files from a place on, one was read, and then the others
 pub files_left : {Z : Type 0} (form : DiffForm) (names : List (String Z)) (place : ℕ) (name : String Z) (old middle new : HostState) (begun between read : ReadingsView)
@@ -38,6 +40,14 @@ pub no_files_left : {Z : Type 0} (form : DiffForm) (names : List (String Z)) (pl
 unfolding ReadsFiles
 no_files_left form names place host readings past =
     subst (λ (xs : List _). ReadsFiles form (map string_bytes xs) host readings host readings) (sym (drop_all place names past)) (refl, refl)
+
+-- the files were read, and there was no memory to say what became of them
+pub so_far : (setup : SetupView) (bytes : Option (List ℕ)) (old middle new : HostState) → middle.files ≡ old.files → MayHaveMade setup bytes middle new → CameSoFar setup old new
+so_far setup None old middle new files is = (middle, files, inl is)
+so_far setup (Some bytes) old middle new files is = elim is [ inl same ↦ (middle, files, inl same) | inr made ↦ (middle, files, inr (bytes, made.0, made.1)) ]
+
+pub wants_memory : {A : Type 0} (P : Type 0) (result : Result A DifferenceFault) → result ≡ Err Memory → P → IfErr result (λ fault. (fault ≡ Memory) × P)
+wants_memory P result is holds = subst (λ (r : Result _ DifferenceFault). IfErr r (λ fault. (fault ≡ Memory) × P)) (sym is) (refl, holds)
 
 -- a merge that began with nothing amiss has ended as its run has
 pub merge_ended : (setup : SetupView) (old new : Outside) (faults told : Account) (status : ℕ) (ended : Result (Unit {0}) DifferenceFault) (first last : Stand)
