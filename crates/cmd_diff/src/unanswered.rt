@@ -10,8 +10,8 @@ use program_arguments::DiffForm;
 use program_batch::{Reason, push_known_reason};
 use std::alloc::{AllocError, Global};
 
-/// Puts the line on standard error of a file that isn't answered into room that is empty: it has
-/// these bytes, or cannot be read, for a reason that may be known.
+/// Puts the line on standard error of a file that is not compared into an empty buffer: the file
+/// has these bytes, or cannot be read, for a reason that may be known.
 pub fn push_fault_line(
     out: &mut Vec<u8>,
     name: &[u8],
@@ -62,7 +62,7 @@ fn print_wrong_length(
     no_dump_json(scratch, name, bytes, out)
 }
 
-/// Appends what is printed of a file that isn't answered.
+/// Appends what is printed of a file that is not compared.
 pub fn print_fault(
     form: DiffForm,
     scratch: &mut Scratch,

@@ -92,7 +92,7 @@ file_some task row p q bytes file extent portion rest is file_is q_is =
     ∙ ap (λ (f : List ℕ). write_work task row f bytes (named_progress f p) rest) file_is
     ∙ ap (λ (o : Option Portion). file_work task row p o rest) is
 
--- what there is to write of the file of a row, by what the code asks for
+-- what there is to write of the file of a row, by the code's condition
 pub portion_same : (task : TaskView) (row : Row) (with_parts : Bool) (image : List (List ℕ)) → with_parts ≡ task.setup.with_parts → image ≡ task.dump.image
     → row_portion with_parts image row ≡ portion_of task row
 portion_same task row with_parts image is_parts is_image =

@@ -110,16 +110,16 @@ wait_work task progress rest =
 abbrev pub list_work : TaskView → Progress → Work
 list_work task progress = put_work progress.list task progress (name_work task)
 
--- a file was written, or wasn't, and then comes the rest
+-- a file was written, or could not be; then comes the rest
 abbrev pub after_writing : TaskView → Row → List ℕ → Progress → (Progress → Work) → Bool → Work
 after_writing task row file progress rest true = rest (written_progress task row file progress)
 after_writing task row file progress rest false = Why (λ reason. rest (unwritten_progress task row file reason progress))
 
--- a file is written under a host name that is taken, and then comes the rest
+-- a file is written under a host name that is taken; then comes the rest
 abbrev pub write_work : TaskView → Row → List ℕ → Bytes → Progress → (Progress → Work) → Work
 write_work task row file bytes progress rest = Then (NewFile (path_in task.partial file) bytes) (after_writing task row file progress rest)
 
--- the file of a row is written, if there is something to write, and then comes the rest
+-- the file of a row is written, if there is something to write; then comes the rest
 unfoldable pub file_work : TaskView → Row → Progress → Option Portion → (Progress → Work) → Work
 file_work task row progress None rest = rest (told_progress task row None progress)
 file_work task row progress (Some portion) rest =

@@ -44,12 +44,12 @@ abbrev pub type_members : Option Kind → ℕ → Bool → Bool → List Field
 type_members kind type closed locked =
     (codes "kind", kind_value kind) ∷ (codes "type", numeral type) ∷ (codes "closed", boolean closed) ∷ (codes "locked", boolean locked) ∷ []
 
--- the shown size, the pair of the first block, and the length of a record
+-- the size that the directory gives, the pair of the first block, and the length of a record
 abbrev pub entry_members : ℕ → ℕ × ℕ → Option ℕ → List Field
 entry_members size first record_length =
     (codes "size", numeral size) ∷ (codes "first", string (pair_text first)) ∷ (codes "record", numeral_or_null record_length) ∷ []
 
--- how many blocks the data way and the side way have
+-- how many blocks the data chain and the side chain have
 abbrev pub way_members : Option ℕ → Option ℕ → List Field
 way_members blocks side = (codes "blocks", numeral_or_null blocks) ∷ (codes "side", numeral_or_null side) ∷ []
 

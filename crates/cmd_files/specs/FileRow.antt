@@ -39,11 +39,11 @@ name_fields field = spelling (name_in field) ∷ encode_lower field ∷ []
 abbrev pub type_fields : Option Kind → ℕ → Bool → Bool → List (List ℕ)
 type_fields kind type closed locked = option_map_or kind_letters kind [] ∷ decimal type ∷ truth_text closed ∷ truth_text locked ∷ []
 
--- the shown size, the pair of the first block, and the length of a record
+-- the size that the directory gives, the pair of the first block, and the length of a record
 abbrev pub entry_fields : ℕ → ℕ × ℕ → Option ℕ → List (List ℕ)
 entry_fields size first record_length = decimal size ∷ pair_text first ∷ decimal_or_empty record_length ∷ []
 
--- how many blocks the data way and the side way have
+-- how many blocks the data chain and the side chain have
 abbrev pub way_fields : Option ℕ → Option ℕ → List (List ℕ)
 way_fields blocks side = decimal_or_empty blocks ∷ decimal_or_empty side ∷ []
 

@@ -317,7 +317,7 @@ fn with_preference<'a>(
     with_argument(command, first)
 }
 
-/// `catalogue [--maps] [--title TEXT] [--links FOLDER]` with the names of files.
+/// Returns `catalogue [--maps] [--title TEXT] [--links FOLDER]` with the names of files.
 fn catalogue<'a>(alloc: Global) -> Result<Command<'a>, AllocError>
     ensures { IsMade catalogue result }
 {
@@ -393,7 +393,7 @@ fn image_argument<'a>(alloc: Global) -> Arg<'a>
         .help("The D64 image to work on; without it, a blank image")
 }
 
-/// `[FILE]..`.
+/// Returns `[FILE]..`.
 fn files_argument<'a>(alloc: Global, help: &'a str) -> Arg<'a>
     ensures rule { rule_of result ≡ files_argument }
     ensures local { result.global ≡ false }
@@ -434,7 +434,7 @@ fn out_option<'a>(alloc: Global) -> Arg<'a>
     .short('o')
 }
 
-/// `-c LINE` and `--command LINE`, any number of times.
+/// Returns `-c LINE` and `--command LINE`, any number of times.
 fn line_option<'a>(alloc: Global) -> Arg<'a>
     ensures rule { rule_of result ≡ line_option }
     ensures local { result.global ≡ false }

@@ -153,7 +153,7 @@ impl<'n> DifferenceJob<'n> {
     }
 }
 
-/// The bytes of a file of the host, or why it cannot be read, as far as the host can say.
+/// Returns the bytes of a file of the host, or why it cannot be read, as far as the host can say.
 pub(crate) fn read_contents<H: Host>(
     alloc: Global,
     name: &str,

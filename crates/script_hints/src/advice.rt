@@ -163,7 +163,7 @@ fn missing_file(command: Command) -> Advice
     }
 }
 
-/// The word of a line that gives the name of a file on the disk.
+/// The argument of a line that is the name of a file on the disk.
 fn file_piece(said: &Said<'_>, command: Command) -> Piece
     ensures { piece_of result ≡ file_piece said.now command }
 {

@@ -317,7 +317,7 @@ fn cause_line<H: Host>(
     }
 }
 
-/// Whether a line asks what can be typed.
+/// Whether a line asks which commands there are.
 fn asks_for_help(line: &HeldLine, status: &Status) -> bool {
     match *status {
         Status::UnknownCommand => matches!(Hint::of(Said::of(line).word), Hint::Help),

@@ -94,7 +94,7 @@ fn push_missing(line: &mut Vec<u8>, found: &Found<'_>) -> Result<(), AllocError>
     push_meant(line, found)
 }
 
-/// Adds why no file was deleted.
+/// Appends why no file was deleted.
 fn push_undeleted(line: &mut Vec<u8>, found: &Found<'_>) -> Result<(), AllocError> {
     line.extend_from_slice(b"d64sh: nothing was deleted: ")?;
     match &found.entry {
