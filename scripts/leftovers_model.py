@@ -1,16 +1,18 @@
-"""A plain model of what is left over on dumps, written from the specification and not from the code: deleted files; what `d64sh files` and `extract` print
-of them, and what `extract` writes.
+"""A plain model of what is left over on dumps, written from the specification and not from the code: deleted files, and chains of blocks that no slot leads
+to; what `d64sh files` and `extract` print of them, and what `extract` writes.
 """
 import functools
 import hashlib
 
 import extract_model
 import survey_model as model
+from disk_model import REL, Slot
 from extract_model import Extracted, TakenNames, below, folder_of
 from text_form import to_text
 
 WORDS = ("chain", "reused", "marked", "size", "claimed", "error")
 FATAL = {"chain", "reused", "marked", "size"}
+OPTIONS = ("deleted", "orphans")
 
 
 class Leftovers:
@@ -50,29 +52,67 @@ class Leftovers:
                 "size": slot.size, "first": model.pair_text(slot.first), "record": None, "blocks": told["blocks"], "side": None, "bytes": told["bytes"],
                 "sha256": told["sha256"], "whole": not why, "why": why, "conditions": [], "read_errors": told["read_errors"]}
 
+    # Chains that no slot leads to
+
+    @functools.cached_property
+    def left(self):
+        """The blocks without owner to which no slot leads."""
+        led = {pair for _, slot in self.survey.slots if slot.used or slot.first[0] != 0 for pair in self.survey.way(slot.first).blocks}
+        return {pair for pair in self.disk.pairs if pair not in self.owners and pair not in led}
+
+    @functools.cached_property
+    def heads(self):
+        linked = {tuple(self.disk.block(pair)[:2]) for pair in self.left}
+        return [pair for pair in self.disk.pairs if pair in self.left and pair not in linked and pair[0] != 18 and self.is_orphan(self.survey.way(pair))]
+
+    def is_orphan(self, way):
+        return way.end == "end" and self.left.issuperset(way.blocks) and len(self.disk.content(way.blocks)) > 0
+
+    @functools.cached_property
+    def old_slots(self):
+        """The first old slot that leads to each pair."""
+        found = {}
+        for pair in self.disk.pairs:
+            if pair[0] == 18 and pair in self.left:
+                for place in range(8):
+                    slot = Slot(pair, place, self.disk.block(pair)[32 * place:32 * place + 32])
+                    if slot.used and slot.kind <= REL:
+                        found.setdefault(slot.first, slot)
+        return found
+
+    def orphan(self, head):
+        """The members of the object of a chain, but for the image's name."""
+        told, old = self.told(self.survey.way(head)), self.old_slots.get(head)
+        named = {"name": to_text(old.name), "field": old.data[5:21].hex(), "kind": model.KIND_WORDS[old.kind], "type": old.data[2], "closed": old.closed,
+                 "locked": old.locked, "size": old.size} if old else dict.fromkeys(("name", "field", "kind", "type", "closed", "locked", "size"))
+        return {"slot": None, **named, "first": model.pair_text(head), "record": None, "blocks": told["blocks"], "side": None, "bytes": told["bytes"],
+                "sha256": told["sha256"], "whole": None, "why": [], "conditions": [], "read_errors": told["read_errors"]}
+
     # What is printed and written
 
     def rows(self, options):
-        """What each row is of, its slot, its members, and the last ones that the options ask for."""
+        """Each row with the last members that the options ask for, what it is, and the slot or the head."""
         files = {number: file for (number, _), file in zip(self.survey.entries, self.survey.files)}
         scratched = dict(self.scratched) if "deleted" in options else {}
         for number, slot in self.survey.slots:
             if number in files:
-                yield "file", slot, files[number], self.last(options, False)
+                yield "file", slot, files[number], self.last(options, False, False)
             elif number in scratched:
-                yield "deleted", slot, self.deleted(number, slot), self.last(options, True)
+                yield "deleted", slot, self.deleted(number, slot), self.last(options, True, False)
+        for head in self.heads if "orphans" in options else ():
+            yield "orphan", head, self.orphan(head), self.last(options, False, True)
 
     @staticmethod
-    def last(options, is_deleted):
-        return {"deleted": is_deleted} if "deleted" in options else {}
+    def last(options, is_deleted, is_orphan):
+        return {**({"deleted": is_deleted} if "deleted" in options else {}), **({"orphan": is_orphan} if "orphans" in options else {})}
 
     def portion(self, what, it, row, in_part):
         """The bytes that are written of a row, or None, and whether they are a part."""
         if what == "file":
             content = extract_model.content_of(self.survey, it)
             return (content, False) if content is not None or not in_part else (extract_model.part_of(self.survey, it), True)
-        way = self.survey.way(it.first)
-        if not FATAL.intersection(row["why"]):
+        way = self.survey.way(it.first if what == "deleted" else it)
+        if what == "orphan" or not FATAL.intersection(row["why"]):
             return self.disk.content(way.blocks), False
         if not in_part or not way.blocks:
             return None, True
@@ -81,7 +121,9 @@ class Leftovers:
     def stem_and_ending(self, what, it, row):
         if what == "file":
             return row["name"], f".{model.KIND_WORDS[it.kind]}"
-        return row["name"], ".deleted"
+        if what == "deleted":
+            return row["name"], ".deleted"
+        return f"{it[0]}-{it[1]}" if row["name"] is None else row["name"], ".orphan"
 
 
 @functools.lru_cache(64)
@@ -90,7 +132,7 @@ def leftovers_of(data):
 
 
 def columns(options, with_file=False):
-    return [*model.COLUMNS_OF_FILES, *["file"] * with_file, *["deleted"] * ("deleted" in options)]
+    return [*model.COLUMNS_OF_FILES, *["file"] * with_file, *["deleted"] * ("deleted" in options), *["orphan"] * ("orphans" in options)]
 
 
 def lines(form, name, rows, options, with_file=False):
@@ -141,7 +183,7 @@ def difference_of_text(data, text, options):
     """How the table of a dump differs from what it must print, or None."""
     left, printed = leftovers_of(data), text.splitlines()[1:]
     rows = list(left.rows(options))
-    groups = [("file", None), ("deleted", "deleted")]
+    groups = [("file", None), ("deleted", "deleted"), ("orphan", "in no directory")]
     for what, heading in groups:
         of_group = [row for it, _, row, _ in rows if it == what]
         if heading and of_group and printed[:1] != [heading]:
@@ -162,4 +204,8 @@ def is_deleted_line(left, row, line):
     return ("reused" in row["why"]) == ("were used again by " in rest)
 
 
-IS_LINE = {"file": lambda left, row, line: model.is_file_line(line, row), "deleted": is_deleted_line}
+def is_orphan_line(left, row, line):
+    return row["first"] in line and (row["name"] is None or f'"{row["name"]}"' in line) and str(row["blocks"]) in line
+
+
+IS_LINE = {"file": lambda left, row, line: model.is_file_line(line, row), "deleted": is_deleted_line, "orphan": is_orphan_line}

@@ -27,8 +27,8 @@ _d64sh() {
     petcat) options="-o --output -h --help" ;;
     crunch) options="--start -o --output -h --help" ;;
     check) options="--digest --format --files-from --null -h --help" ;;
-    files) options="--deleted --format --files-from --null -h --help" ;;
-    extract) options="--into --part --skip-existing --deleted --format --files-from --null -h --help" ;;
+    files) options="--deleted --orphans --format --files-from --null -h --help" ;;
+    extract) options="--into --part --skip-existing --deleted --orphans --format --files-from --null -h --help" ;;
     map) options="--format -h --help" ;;
     diff) options="--format -h --help" ;;
     merge) options="-o --output --plain --majority --first --format -h --help" ;;

@@ -66,7 +66,7 @@ was_not task row file p rest host said reason is says =
     subst (λ (s : Bool). LeadsTo (after_writing task row file p rest s) host (rest (unwritten_progress task row file reason p)) host) (sym is)
     (explained (λ (r : Option Reason). rest (unwritten_progress task row file r p)) host reason says)
 
--- no file was written, and the line of the row, which says so, was added
+-- no file was written, and its line was added
 pub told_none : {A E : Type 0} (result : Result A E) (task : TaskView) (row : Row) (p : Progress) (left : Option ℕ) (printed lines complaint : List ℕ) (list : ListState) (failed : Bool)
     → left ≡ left_after p.left (portion_of task row) → OnOk result (printed ≡ p.printed ++ printed_file task.setup.form task.name task.dump.image row None)
     → OnOk result (lines ≡ p.lines ++ printed_file (as_json task.setup.form) task.name task.dump.image row None) → complaint ≡ p.complaint → list ≡ p.list → failed ≡ p.has_failed
@@ -76,8 +76,7 @@ told_none (Ok done) task row p left printed lines complaint list failed l pr li 
     λ i. record { left = l i; taken = p.taken; printed = pr i; lines = li i; list = st i; complaint = co i; has_failed = fa i }
 told_none (Err fault) task row p left printed lines complaint list failed l pr li co st fa = tt
 
--- if there is nothing to write of a row, its line is added, and then comes the rest; else its bytes
--- are written under its host name
+-- if this is found of the file, what there is to write is what is written
 pub file_none : (task : TaskView) (row : Row) (p : Progress) (portion : Option Portion) (rest : Progress → Work) → None ≡ portion
     → rest (told_progress task row None p) ≡ file_work task row p portion rest
 unfolding file_work

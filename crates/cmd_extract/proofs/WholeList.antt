@@ -8,7 +8,7 @@ use Rattle.petscii.specs.Spelling.{spelling}
 use Rattle.d64_files.specs.Name.{name_in}
 use Rattle.d64_leftovers.specs.Rows.{rows}
 use Rattle.d64_leftovers.specs.declared.row.Row.{Row}
-use Rattle.d64_leftovers.specs.declared.row.Row.TheVariants.{File, Deleted}
+use Rattle.d64_leftovers.specs.declared.row.Row.TheVariants.{File, Deleted, Orphan}
 use Rattle.cmd_extract_contents.specs.Portions.{Portion}
 use Rattle.cmd_extract_contents.specs.Limits.{portion_within}
 use Rattle.cmd_extract_contents.specs.declared.extent.Extent.{Extent}
@@ -22,7 +22,7 @@ use Rattle.cmd_files.specs.Extracts.{as_json, printed_file}
 use Rattle.cmd_files.specs.Selections.{files_and}
 use Rattle.cmd_extract.specs.Setup.{TaskView}
 use Rattle.cmd_extract.specs.Paths.{path_in, with_slash, list_path}
-use Rattle.cmd_extract.specs.Progress.{Progress, waiting_limit, first_progress, portion_of, ending_by, is_part, host_name, row_name, told_progress, spent_progress, named_progress, written_progress, put_progress}
+use Rattle.cmd_extract.specs.Progress.{Progress, waiting_limit, first_progress, portion_of, ending_by, is_part, orphan_stem, host_name, row_name, told_progress, spent_progress, named_progress, written_progress, put_progress}
 use Rattle.cmd_extract.specs.declared.list_state.ListState.{ListState}
 use Rattle.cmd_extract.specs.declared.list_state.ListState.TheVariants.{New, Begun, GivenUp}
 use Rattle.cmd_extract.specs.Work.{Work, Rename, Done, Then}
@@ -55,6 +55,7 @@ other_path : (task : TaskView) (taken : List (List ℕ)) (row : Row) (extent : E
 unfolding host_name row_name
 other_path task taken (File row) extent = other_named task taken (spelling (name_in row.field)) (ending_by row.kind) (is_part extent)
 other_path task taken (Deleted row) extent = other_named task taken (spelling (name_in row.field)) endings.Deleted (is_part extent)
+other_path task taken (Orphan row) extent = other_named task taken (orphan_stem row.first row.old) endings.Orphan (is_part extent)
 
 -- what a work puts into the list
 abbrev into_list : TaskView → Work → List ℕ

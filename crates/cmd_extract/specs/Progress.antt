@@ -1,13 +1,15 @@
 -- How far the files of an image are unpacked.
-use Rattle.std.specs.Prelude.{ℕ, Bool, true, false, List, [], ◌∷◌, ◌++◌, Option, Some, None}
+use Rattle.std.specs.Prelude.{ℕ, Bool, true, false, List, [], ◌∷◌, ◌++◌, Option, Some, None, codes, decimal}
 use Rattle.std.specs.Option.{option_map_or}
 use Rattle.petscii.specs.Spelling.{spelling}
+use Rattle.d64_image.specs.Block.{pair_at}
 use Rattle.d64_files.specs.Name.{name_in}
 use Rattle.d64_files.specs.declared.kind.Kind.{Kind}
 use Rattle.d64_files.specs.declared.kind.Kind.TheVariants as kinds
 use Rattle.d64_inventory.specs.Rows.{FileRowView}
+use Rattle.d64_leftovers.specs.declared.orphan_row.OldSlot.{OldSlot}
 use Rattle.d64_leftovers.specs.declared.row.Row.{Row}
-use Rattle.d64_leftovers.specs.declared.row.Row.TheVariants.{File, Deleted}
+use Rattle.d64_leftovers.specs.declared.row.Row.TheVariants.{File, Deleted, Orphan}
 use Rattle.cmd_extract_contents.specs.Portions.{Portion}
 use Rattle.cmd_extract_contents.specs.RowPortions.{row_portion}
 use Rattle.cmd_extract_contents.specs.Limits.{limit, left_after}
@@ -71,14 +73,24 @@ abbrev pub is_part : Extent → Bool
 is_part extents.Content = false
 is_part extents.Part = true
 
--- the host name of a file, if these names are taken
+-- the host name of a file, where these are taken
 unfoldable pub host_name : List (List ℕ) → FileRowView → Extent → List ℕ
 host_name taken row extent = next_name taken (spelling (name_in row.field)) (ending_by row.kind) (is_part extent)
 
--- the host name of the file of a row: a deleted file has an ending that says so
+-- the track and the sector of a block, as in a host name
+abbrev pub pair_stem : ℕ × ℕ → List ℕ
+pair_stem pair = decimal pair.0 ++ (codes "-" ++ decimal pair.1)
+
+-- the name of an orphan in text form: that which an old slot tells, else its first block
+abbrev pub orphan_stem : ℕ → Option OldSlot → List ℕ
+orphan_stem first None = pair_stem (pair_at first)
+orphan_stem first (Some old) = spelling (name_in old.field)
+
+-- the host name of the file of a row: a deleted file and an orphan have endings that say so
 unfoldable pub row_name : List (List ℕ) → Row → Extent → List ℕ
 row_name taken (File row) extent = host_name taken row extent
 row_name taken (Deleted row) extent = next_name taken (spelling (name_in row.field)) endings.Deleted (is_part extent)
+row_name taken (Orphan row) extent = next_name taken (orphan_stem row.first row.old) endings.Orphan (is_part extent)
 
 -- what there is to write of the file of a row
 abbrev pub portion_of : TaskView → Row → Option Portion
@@ -91,7 +103,7 @@ told_progress task row path progress = record progress {
   lines = progress.lines ++ printed_file (as_json task.setup.form) task.name task.dump.image row path;
 }
 
--- how many bytes later files may have is reduced by what there is to write of a row
+-- after this file fewer bytes are left for later ones
 abbrev pub spent_progress : TaskView → Row → Progress → Progress
 spent_progress task row progress = record progress { left = left_after progress.left (portion_of task row) }
 
@@ -108,7 +120,7 @@ failed_at path reason progress =
 abbrev pub written_progress : TaskView → Row → List ℕ → Progress → Progress
 written_progress task row file progress = told_progress task row (Some (path_in task.done file)) progress
 
--- the file of a row could not be written under a host name, for this reason, if one is known
+-- the file of a row could not be written
 abbrev pub unwritten_progress : TaskView → Row → List ℕ → Option Reason → Progress → Progress
 unwritten_progress task row file reason progress = told_progress task row None (failed_at (path_in task.partial file) reason progress)
 

@@ -7,7 +7,8 @@ ghost use Rattle.cmd_extract_contents.specs.Limits.{portion_within};
 ghost use Rattle.cmd_extract.specs.Work.{Work, Comes};
 ghost use Rattle.d64_files.specs.Name.{name_in};
 ghost use Rattle.host_names.specs.TakenNames.{next_name};
-ghost use Rattle.cmd_extract.specs.Progress.{Progress, is_part, waiting_limit, first_progress, portion_of, row_name, spent_progress, written_progress, unwritten_progress, put_progress};
+ghost use Rattle.host_names.specs.declared.ending.Ending.TheVariants.{Orphan as orphan_ending};
+ghost use Rattle.cmd_extract.specs.Progress.{Progress, is_part, waiting_limit, first_progress, portion_of, orphan_stem, row_name, spent_progress, written_progress, unwritten_progress, put_progress};
 ghost use Rattle.cmd_extract.specs.FilesNow.{progress_of};
 ghost use Rattle.cmd_extract.specs.Setup.{TaskView};
 ghost use Rattle.cmd_extract.specs.Paths.{list_path};
@@ -22,9 +23,11 @@ use crate::telling::Told;
 use cmd_extract_contents::{ContentExtraction, Extent};
 use cmd_files::print_after;
 use d64_files::name_in;
-use d64_leftovers::{Row, RowList};
+use d64_image::BlockNo;
+use d64_leftovers::{OldSlot, OrphanRow, Row, RowList};
 use host_names::{Ending, TakenNames};
 use host_storage::Host;
+use itoa::Buffer;
 use out_messages::too_much_line;
 use petscii::push_spelling;
 use program_batch::Reason;
@@ -70,6 +73,41 @@ fn take_name(
     taken.take(text, ending, is_part(extent), name)
 }
 
+/// Puts the name of an orphan into a text: that which an old slot tells, in text form, or else its
+/// first block, in the place of what the text had.
+fn put_orphan_stem(
+    text: &mut Vec<u8>,
+    first: BlockNo,
+    old: Option<OldSlot>,
+) -> Result<(), AllocError>
+    ensures { OnOk result (text.new.items ≡ orphan_stem first old) }
+{
+    text.clear();
+    match old {
+        Some(old) => push_spelling(text, name_in(&old.field)),
+        None => {
+            text.extend_from_slice(Buffer::new().format(first.track()).as_bytes())?;
+            text.extend_from_slice(b"-")?;
+            text.extend_from_slice(Buffer::new().format(first.sector()).as_bytes())
+        }
+    }
+}
+
+/// Names the host file of an orphan. The name is taken from then on.
+fn take_orphan_name(
+    taken: &mut TakenNames,
+    text: &mut Vec<u8>,
+    chain: &OrphanRow,
+    extent: Extent,
+    name: &mut Vec<u8>,
+) -> Result<(), AllocError>
+    ensures name { OnOk result (name.new.items ≡ next_name taken.old (orphan_stem chain.now.first chain.now.old) orphan_ending (is_part extent)) }
+    ensures taken { OnOk result (taken.new ≡ taken.old ++ name.new.items ∷ []) }
+{
+    put_orphan_stem(text, chain.first, chain.old)?;
+    taken.take(text, Ending::Orphan, is_part(extent), name)
+}
+
 /// Names the host file of the file of a row. The name is taken from then on.
 #[tactic(auto, unfolding(crate::specs::Progress::row_name, crate::specs::Progress::host_name))]
 fn name_file(
@@ -85,6 +123,7 @@ fn name_file(
     match row {
         Row::File(file) => take_name(taken, text, &file.field, ending_by(file.kind), extent, name),
         Row::Deleted(file) => { take_name(taken, text, &file.field, Ending::Deleted, extent, name) }
+        Row::Orphan(chain) => take_orphan_name(taken, text, chain, extent, name),
     }
 }
 

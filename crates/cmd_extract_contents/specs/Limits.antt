@@ -13,16 +13,16 @@ abbrev pub remaining_bytes : Option ℕ → ℕ → Option ℕ
 remaining_bytes None count = None
 remaining_bytes (Some left) count = if nat_le count left then Some (left - count) else None
 
--- how many bytes later files may have after what there is to write of a slot, if anything
+-- the same after what there is to write of a file, if anything
 abbrev pub left_after : Option ℕ → Option Portion → Option ℕ
 left_after left None = left
 left_after left (Some portion) = remaining_bytes left (length portion.bytes)
 
--- what is written, of what there is to write of a file: nothing if that is too much
+-- what is written, of what there is to write of a file: nothing where that is too much
 abbrev pub portion_within : Option ℕ → Option Portion → Option Portion
 portion_within left portion = if is_some (left_after left portion) then portion else None
 
--- what is written, of what there is to write of files, one after another, if they may have this
+-- what is written, of what there is to write of files, one after another, where they may have so
 -- many bytes
 unfoldable pub written_portions : Option ℕ → List (Option Portion) → List (Option Portion)
 written_portions left [] = []

@@ -5,7 +5,7 @@ ghost use Rattle.cmd_extract_contents.specs.RowPortions.{row_portion};
 ghost use Rattle.cmd_extract_contents.specs.Limits.{remaining_bytes, left_after, portion_within};
 
 use crate::extent::Extent;
-use crate::finding::{put_deleted, put_portion};
+use crate::finding::{put_content_along, put_deleted, put_portion};
 use d64_files::SlotNo;
 use d64_leftovers::Row;
 use d64_survey::Survey;
@@ -90,6 +90,12 @@ impl ContentExtraction {
             Row::File(file) => self.next(survey, SlotNo::at(file.slot), with_parts, bytes),
             Row::Deleted(file) => {
                 let found = put_deleted(bytes, survey.image(), file, with_parts)?;
+                Ok(self.within(found, bytes))
+            }
+            Row::Orphan(chain) => {
+                let first = chain.first;
+                let image = survey.image();
+                let found = put_content_along(bytes, image, first.track(), first.sector())?;
                 Ok(self.within(found, bytes))
             }
         }

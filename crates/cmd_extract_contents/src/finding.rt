@@ -100,7 +100,7 @@ pub(crate) fn put_deleted(
 {
     let (track, sector) = row.first;
     if !is_lost(row.losses.as_slice()) {
-        return put_deleted_content(bytes, image, track, sector);
+        return put_content_along(bytes, image, track, sector);
     }
     if !with_parts {
         return Ok(None);
@@ -114,7 +114,7 @@ pub(crate) fn put_deleted(
 
 /// Replaces a list's contents by the content along the way from a track and a sector, and returns
 /// `Content`, or None if there is no content.
-fn put_deleted_content(
+pub(crate) fn put_content_along(
     bytes: &mut Vec<u8>,
     image: &Image,
     track: u8,

@@ -8,7 +8,7 @@ use Rattle.d64_g64.specs.DumpOf.{dump_of}
 use Rattle.cmd_files.specs.declared.form.Form.{Form}
 use Rattle.cmd_files.specs.Files.{answer_of, files_rule}
 
--- what is reported of the dump that bytes are is what is reported of the bytes
+-- the result for a dump is the result for its bytes
 pub answered_by : {E : Type 0} (result : Result Verdict E) (answer : Verdict → Answer) (form : Form) (name bytes : List ℕ) (given : Option (List ℕ)) (dump : Option DumpView)
     → given ≡ Some bytes → dump_of bytes ≡ dump → IfOk result (λ verdict. answer verdict ≡ answer_of form name bytes dump)
     → IfOk result (λ verdict. answer verdict ≡ files_rule form name given)

@@ -2,13 +2,14 @@
 use Rattle.std.specs.Prelude.{ℕ, if◌then◌else◌, List, [], ◌∷◌, ◌++◌, codes, decimal}
 use Rattle.csv.specs.Writing.{row_text, default_writer}
 use Rattle.d64_image.specs.Disk.{Bytes}
-use Rattle.d64_leftovers.specs.Rows.{is_deleted}
+use Rattle.d64_leftovers.specs.Rows.{is_deleted, is_orphan}
 use Rattle.d64_leftovers.specs.declared.row.Row.{Row}
-use Rattle.d64_leftovers.specs.declared.row.Row.TheVariants.{File, Deleted}
+use Rattle.d64_leftovers.specs.declared.row.Row.TheVariants.{File, Deleted, Orphan}
 use Rattle.program_arguments.specs.declared.asked.Leftovers.{Leftovers}
 use Rattle.out_json_csv.specs.Rows.{truth_text, host_field}
 use Rattle.cmd_files.specs.FileRow.{file_fields}
 use Rattle.cmd_files.specs.DeletedRow.{deleted_fields}
+use Rattle.cmd_files.specs.OrphanRow.{orphan_fields}
 
 -- the columns before those of leftovers and the error: the keys of the object
 abbrev pub columns : List (List ℕ)
@@ -16,17 +17,19 @@ columns =
     codes "image" ∷ codes "slot" ∷ codes "name" ∷ codes "field" ∷ codes "kind" ∷ codes "type" ∷ codes "closed" ∷ codes "locked" ∷ codes "size" ∷ codes "first" ∷ codes "record"
     ∷ codes "blocks" ∷ codes "side" ∷ codes "bytes" ∷ codes "sha256" ∷ codes "whole" ∷ codes "why" ∷ codes "conditions" ∷ codes "read_errors" ∷ []
 
--- the column for whether a file was deleted, if deleted files are wanted
+-- whether files were deleted, where deleted ones are wanted, and whether they are orphans, where
+-- those are
 abbrev pub leftover_columns : Leftovers → List (List ℕ)
-leftover_columns leftovers = if leftovers.deleted then codes "deleted" ∷ [] else []
+leftover_columns leftovers = (if leftovers.deleted then codes "deleted" ∷ [] else []) ++ (if leftovers.orphans then codes "orphan" ∷ [] else [])
 
--- whether the file of a row was deleted, if deleted files are wanted
+-- the same of a row
 abbrev pub leftover_fields : Leftovers → Row → List (List ℕ)
-leftover_fields leftovers row = if leftovers.deleted then truth_text (is_deleted row) ∷ [] else []
+leftover_fields leftovers row =
+    (if leftovers.deleted then truth_text (is_deleted row) ∷ [] else []) ++ (if leftovers.orphans then truth_text (is_orphan row) ∷ [] else [])
 
--- these columns, empty
+-- nothing in these columns
 abbrev pub leftover_blanks : Leftovers → List (List ℕ)
-leftover_blanks leftovers = if leftovers.deleted then [] ∷ [] else []
+leftover_blanks leftovers = (if leftovers.deleted then [] ∷ [] else []) ++ (if leftovers.orphans then [] ∷ [] else [])
 
 -- fields and an error on a line of their own
 abbrev pub row_with : List (List ℕ) → List ℕ → List ℕ
@@ -36,10 +39,11 @@ row_with fields error = row_text default_writer (fields ++ error ∷ [])
 abbrev pub place_fields : Bytes → ℕ → List (List ℕ)
 place_fields name slot = host_field name ∷ decimal slot ∷ []
 
--- the fields of a row, with its place
+-- what is told of a row, with its place
 unfoldable pub row_fields : Bytes → Row → List (List ℕ)
 row_fields name (File row) = place_fields name row.slot ++ file_fields row
 row_fields name (Deleted row) = place_fields name row.slot ++ deleted_fields row
+row_fields name (Orphan row) = (host_field name ∷ [] ∷ []) ++ orphan_fields row
 
 -- the row of CSV for a row of an image with this host name; it has no error
 unfoldable pub csv_row : Leftovers → Bytes → Row → List ℕ
@@ -49,10 +53,10 @@ csv_row leftovers name row = row_with (row_fields name row ++ leftover_fields le
 unfoldable pub header_row : Leftovers → List ℕ
 header_row leftovers = row_with (columns ++ leftover_columns leftovers) (codes "error")
 
--- a name, and an empty field in each other column but for those of leftovers and the error
+-- a name, and nothing in each other column but for those of leftovers and the error
 abbrev pub name_alone : Bytes → List (List ℕ)
 name_alone name = host_field name ∷ [] ∷ [] ∷ [] ∷ [] ∷ [] ∷ [] ∷ [] ∷ [] ∷ [] ∷ [] ∷ [] ∷ [] ∷ [] ∷ [] ∷ [] ∷ [] ∷ [] ∷ [] ∷ []
 
--- a row with only a name and an error
+-- a row with a name and an error alone
 unfoldable pub unanswered_row : Leftovers → Bytes → List ℕ → List ℕ
 unanswered_row leftovers name error = row_with (name_alone name ++ leftover_blanks leftovers) error

@@ -14,7 +14,7 @@ use Rattle.out_messages.specs.Names.{quoted_name}
 use Rattle.out_messages.specs.OwnerText.{block_owners}
 use Rattle.cmd_files.specs.FileTable.{right_in, left_in}
 
--- the text ` by ` and the owners of a block that was used again; empty if there is no such block
+-- by what the blocks of a deleted file were used again, by the first of them that has an owner
 abbrev pub new_owners : Disk → Option ℕ → List ℕ
 new_owners image block = option_map_or (λ block. codes " by " ++ block_owners image block) block []
 
@@ -32,7 +32,7 @@ unfoldable pub losses_text : Disk → DeletedRowView → List Loss → List ℕ
 losses_text image row [] = []
 losses_text image row (loss ∷ losses) = loss_text image row loss ++ flat_map (λ other. codes ", " ++ loss_text image row other) losses
 
--- the text before the reasons: that the file is lost, or can be brought back
+-- what stands before the reasons: that the file is lost, or can be brought back
 abbrev pub hope_text : List Loss → List ℕ
 hope_text [] = codes "can be brought back"
 hope_text (loss ∷ losses) = if is_lost (loss ∷ losses) then codes "lost: " else codes "can be brought back, but "
@@ -41,8 +41,8 @@ hope_text (loss ∷ losses) = if is_lost (loss ∷ losses) then codes "lost: " e
 unfoldable pub deleted_state : Disk → DeletedRowView → List ℕ
 deleted_state image row = hope_text row.losses ++ losses_text image row row.losses
 
--- the text of a deleted file: the size, the name, and whether it can be brought back; its kind
--- isn't known
+-- what is told of a deleted file on a line: the size, the name, and whether it can be brought back;
+-- its kind isn't known
 unfoldable pub deleted_text : Disk → DeletedRowView → List ℕ
 deleted_text image row =
     right_in 5 (decimal row.size) ++ (codes " " ++ (left_in 18 (quoted_name (name_in row.field)) ++ (codes "       " ++ deleted_state image row)))

@@ -25,7 +25,7 @@ extracted_object leftovers name row path = object_of (row_members name row ++ (p
 abbrev pub path_field : Option Bytes → List ℕ
 path_field path = option_map_or host_field path []
 
--- its row of CSV: the path comes before the fields of leftovers and the error, which is empty
+-- the row of CSV of it: the path stands before what is left over and the error, which it has not
 unfoldable pub extracted_row : Leftovers → Bytes → Row → Option Bytes → List ℕ
 extracted_row leftovers name row path = row_with (row_fields name row ++ (path_field path ∷ leftover_fields leftovers row)) []
 
@@ -34,7 +34,7 @@ abbrev pub path_text : Option Bytes → List ℕ
 path_text None = codes ", not written"
 path_text (Some path) = codes " -> " ++ shown_name path
 
--- its line for people: the text of the row, and the path
+-- the line of such a slot
 unfoldable pub extracted_line : Disk → Row → Option Bytes → List ℕ
 extracted_line image row path = row_text image row ++ (path_text path ++ codes "\n")
 

@@ -25,7 +25,7 @@ printed_file form name image row path = file_printed form.format form.leftovers 
 abbrev pub as_json : Form → Form
 as_json form = record { format = Json; leftovers = form.leftovers }
 
--- what is printed of an image that isn't extracted, for this error
+-- what is printed of an image that is not extracted, for this error
 abbrev pub error_printed : Format → Leftovers → Bytes → List ℕ → List ℕ
 error_printed Text leftovers name error = []
 error_printed Json leftovers name error = line_of (unanswered_object name error)
@@ -34,7 +34,7 @@ error_printed Csv leftovers name error = unextracted_row leftovers name error
 abbrev pub printed_error : Form → Bytes → List ℕ → List ℕ
 printed_error form name error = error_printed form.format form.leftovers name error
 
--- what is printed of a file with these bytes, which is no dump
+-- what is printed of a file with these bytes, which is not a dump
 abbrev pub length_printed : Format → Leftovers → Bytes → Bytes → List ℕ
 length_printed Text leftovers name bytes = []
 length_printed Json leftovers name bytes = line_of (no_dump_object name bytes)
@@ -43,7 +43,7 @@ length_printed Csv leftovers name bytes = unextracted_row leftovers name (no_dum
 abbrev pub printed_length : Form → Bytes → Bytes → List ℕ
 printed_length form name bytes = length_printed form.format form.leftovers name bytes
 
--- what is printed before all images: the header row of CSV
+-- what is printed before the first result: the header row of CSV
 abbrev pub extract_heading_by : Format → Leftovers → List ℕ
 extract_heading_by Text leftovers = []
 extract_heading_by Json leftovers = []

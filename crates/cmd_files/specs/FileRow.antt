@@ -14,7 +14,7 @@ use Rattle.out_json_csv.specs.Rows.{truth_text}
 use Rattle.out_messages.specs.FileText.{kind_letters}
 use Rattle.cmd_files.specs.FlawWords.{flaw_word}
 
--- a number in decimal; empty if there is no number
+-- a number in decimal; empty if there is none
 abbrev pub decimal_or_empty : Option ℕ → List ℕ
 decimal_or_empty number = option_map_or decimal number []
 

@@ -1,5 +1,5 @@
--- What is printed and reported of the files of an image.
-use Rattle.std.specs.Prelude.{ℕ, List, [], ◌∷◌, ◌++◌, length, Option, Some, None, if◌then◌else◌, codes}
+-- What is printed of the files of an image.
+use Rattle.std.specs.Prelude.{ℕ, Bool, List, [], ◌∷◌, ◌++◌, length, Option, Some, None, if◌then◌else◌, codes}
 use Rattle.std.specs.List.{flat_map}
 use Rattle.d64_image.specs.Disk.{Disk, Bytes}
 use Rattle.d64_survey.specs.Dump.{DumpView}
@@ -18,10 +18,12 @@ use Rattle.program_batch.specs.Answers.{Answer, Rule}
 use Rattle.program_batch.specs.declared.report.Verdict.TheVariants.{Clean, Amiss, Failed}
 use Rattle.cmd_files.specs.CsvRow.{csv_row, header_row, unanswered_row}
 use Rattle.cmd_files.specs.FileTable.{head_line, missing_lines}
-use Rattle.cmd_files.specs.Selections.{files_alone, deleted_alone, files_and}
+use Rattle.cmd_files.specs.Selections.{files_alone, deleted_alone, orphans_alone, files_and}
 use Rattle.cmd_files.specs.RowObject.{row_object}
 use Rattle.cmd_files.specs.RowText.{row_line}
 use Rattle.cmd_files.specs.declared.form.Form.{Form}
+use Rattle.cmd_files.specs.declared.printing.Section.{Section}
+use Rattle.cmd_files.specs.declared.printing.Section.TheVariants.{Deleted, Orphans}
 
 -- what is printed of a row of an image with this host name, in a format
 abbrev pub row_printed : Format → Leftovers → Bytes → Disk → Row → List ℕ
@@ -49,20 +51,33 @@ after_rows Csv dump = []
 unfoldable pub printed_rows : Form → Selection → Bytes → DumpView → List ℕ
 printed_rows form wanted name dump = flat_map (printed_row form name dump.image) (rows wanted dump)
 
--- lines under a heading, if there are any
+-- lines under a heading, where there are some
 abbrev pub under_heading : List ℕ → List ℕ → List ℕ
 under_heading heading [] = []
 under_heading heading (byte ∷ bytes) = heading ++ byte ∷ bytes
 
--- deleted files in a table, under a heading, if they are wanted
-abbrev pub deleted_section : Form → Bytes → DumpView → List ℕ
-deleted_section form name dump =
-    if form.leftovers.deleted then under_heading (codes "deleted\n") (printed_rows form deleted_alone name dump) else []
+-- whether what stands under a heading of its own in a table is wanted, its rows, and the heading
+abbrev pub is_section_wanted : Section → Leftovers → Bool
+is_section_wanted Deleted leftovers = leftovers.deleted
+is_section_wanted Orphans leftovers = leftovers.orphans
+
+abbrev pub section_rows : Section → Selection
+section_rows Deleted = deleted_alone
+section_rows Orphans = orphans_alone
+
+abbrev pub section_heading : Section → List ℕ
+section_heading Deleted = codes "deleted\n"
+section_heading Orphans = codes "in no directory\n"
+
+-- that in a table, where it is wanted
+abbrev pub section_of : Form → Section → Bytes → DumpView → List ℕ
+section_of form section name dump =
+    if is_section_wanted section form.leftovers then under_heading (section_heading section) (printed_rows form (section_rows section) name dump) else []
 
 -- what is printed of a dump between what comes before and after its rows: as text, files and then
 -- what is left over under headings; else all in one list, in the order of the slots
 abbrev pub all_rows : Format → Form → Bytes → DumpView → List ℕ
-all_rows Text form name dump = printed_rows form files_alone name dump ++ deleted_section form name dump
+all_rows Text form name dump = printed_rows form files_alone name dump ++ (section_of form Deleted name dump ++ section_of form Orphans name dump)
 all_rows Json form name dump = printed_rows form (files_and form.leftovers) name dump
 all_rows Csv form name dump = printed_rows form (files_and form.leftovers) name dump
 
@@ -83,7 +98,7 @@ printed_wrong_length Text leftovers name bytes = []
 printed_wrong_length Json leftovers name bytes = line_of (no_dump_object name bytes)
 printed_wrong_length Csv leftovers name bytes = unanswered_row leftovers name (no_dump_error bytes)
 
--- what is printed before all files: the header row of CSV
+-- what is printed before the first result: the header row of CSV
 abbrev pub heading_by : Format → Leftovers → List ℕ
 heading_by Text leftovers = []
 heading_by Json leftovers = []
@@ -92,14 +107,14 @@ heading_by Csv leftovers = header_row leftovers
 abbrev pub heading_of : Form → List ℕ
 heading_of form = heading_by form.format form.leftovers
 
--- what is reported of bytes: of a dump its files, amiss if one isn't whole or some may be missing;
--- else that the bytes are of a wrong length
+-- the result for bytes: the files of a dump, amiss if a file is not whole or may be missing; and
+-- otherwise that their length is wrong
 abbrev pub answer_of : Form → Bytes → Bytes → Option DumpView → Answer
 answer_of form name bytes None = record { printed = printed_wrong_length form.format form.leftovers name bytes; complaint = wrong_length_line name bytes; verdict = Failed }
 answer_of form name bytes (Some dump) =
     record { printed = printed_of form name dump; complaint = []; verdict = if is_listing_amiss dump then Amiss else Clean }
 
--- what `files` reports of a file in a form: by its bytes, or that it cannot be read
+-- the rule of `files` in a form: the result for a file's bytes, or that it cannot be read
 abbrev pub files_rule : Form → Rule
 files_rule form name None = record { printed = printed_unread form.format form.leftovers name; complaint = unread_line name; verdict = Failed }
 files_rule form name (Some bytes) = answer_of form name bytes (dump_of bytes)

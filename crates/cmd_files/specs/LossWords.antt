@@ -1,9 +1,9 @@
--- The names of the reasons why a deleted file isn't whole, as JSON and CSV have them.
+-- The words for why a deleted file isn't whole.
 use Rattle.std.specs.Prelude.{ℕ, List, codes}
 use Rattle.d64_scratched.specs.declared.loss.Loss.{Loss}
 use Rattle.d64_scratched.specs.declared.loss.Loss.TheVariants.{Chain, Reused, Marked, Size, Claimed, Unreadable}
 
--- the name of a reason
+-- the word for a reason
 abbrev pub loss_word : Loss → List ℕ
 loss_word Chain = codes "chain"
 loss_word Reused = codes "reused"

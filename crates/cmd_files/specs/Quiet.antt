@@ -8,7 +8,7 @@ use Rattle.d64_g64.specs.DumpOf.{dump_of}
 use Rattle.cmd_files.specs.declared.form.Form.{Form}
 use Rattle.cmd_files.specs.Files.{answer_of, files_rule}
 
--- a clean verdict on bytes has no complaint: of a dump there is none, and other bytes are a failure
+-- the result for a dump has no complaint, and a result with a complaint is a failure
 answer_of-is_quiet : (form : Form) (name : List ℕ) (bytes : Bytes) (dump : Option DumpView) → (answer_of form name bytes dump).verdict ≡ Clean
     → (answer_of form name bytes dump).complaint ≡ []
 answer_of-is_quiet form name bytes None clean = cc

@@ -1,28 +1,37 @@
 -- What is printed of a file, also of a deleted one, as JSON.
 use Rattle.std.specs.Prelude.{ℕ, if◌then◌else◌, List, [], ◌∷◌, ◌++◌, codes}
-use Rattle.json.specs.Json.{Json, boolean}
+use Rattle.json.specs.Json.{Json, boolean, null}
 use Rattle.d64_image.specs.Disk.{Bytes}
-use Rattle.d64_leftovers.specs.Rows.{is_deleted}
+use Rattle.d64_leftovers.specs.Rows.{is_deleted, is_orphan}
 use Rattle.d64_leftovers.specs.declared.row.Row.{Row}
-use Rattle.d64_leftovers.specs.declared.row.Row.TheVariants.{File, Deleted}
+use Rattle.d64_leftovers.specs.declared.row.Row.TheVariants.{File, Deleted, Orphan}
 use Rattle.program_arguments.specs.declared.asked.Leftovers.{Leftovers}
 use Rattle.out_json_csv.specs.Values.{Field, object_of, numeral}
 use Rattle.out_json_csv.specs.Unanswered.{image_member}
 use Rattle.cmd_files.specs.FileObject.{file_members}
 use Rattle.cmd_files.specs.DeletedObject.{deleted_members}
+use Rattle.cmd_files.specs.OrphanObject.{orphan_members}
 
 -- where a file is: the image with this host name, and the slot
 abbrev pub place_members : Bytes → ℕ → List Field
 place_members name slot = image_member name ∷ (codes "slot", numeral slot) ∷ []
 
--- the members of a row, with its place
+-- an orphan has no slot
+abbrev pub orphan_place : Bytes → List Field
+orphan_place name = image_member name ∷ (codes "slot", null) ∷ []
+
+-- what is told of a row, with its place
 unfoldable pub row_members : Bytes → Row → List Field
 row_members name (File row) = place_members name row.slot ++ file_members row
 row_members name (Deleted row) = place_members name row.slot ++ deleted_members row
+row_members name (Orphan row) = orphan_place name ++ orphan_members row
 
--- whether the file was deleted, if deleted files are wanted
+-- whether the file was deleted, where deleted files are wanted, and whether it is an orphan, where
+-- those are
 abbrev pub leftover_members : Leftovers → Row → List Field
-leftover_members leftovers row = if leftovers.deleted then (codes "deleted", boolean (is_deleted row)) ∷ [] else []
+leftover_members leftovers row =
+    (if leftovers.deleted then (codes "deleted", boolean (is_deleted row)) ∷ [] else [])
+    ++ (if leftovers.orphans then (codes "orphan", boolean (is_orphan row)) ∷ [] else [])
 
 -- what is printed of a row of an image with this host name
 unfoldable pub row_object : Leftovers → Bytes → Row → Json

@@ -3,13 +3,16 @@ use Rattle.std.specs.Prelude.{true, false}
 use Rattle.program_arguments.specs.declared.asked.Leftovers.{Leftovers}
 use Rattle.d64_leftovers.specs.declared.selection.Selection.{Selection}
 
--- the rows of files alone, and those of deleted files alone
+-- the rows of files alone, those of deleted files alone, and those of orphans alone
 abbrev pub files_alone : Selection
-files_alone = record { files = true; deleted = false }
+files_alone = record { files = true; deleted = false; orphans = false }
 
 abbrev pub deleted_alone : Selection
-deleted_alone = record { files = false; deleted = true }
+deleted_alone = record { files = false; deleted = true; orphans = false }
 
--- the rows of files, and of the leftovers that are wanted
+abbrev pub orphans_alone : Selection
+orphans_alone = record { files = false; deleted = false; orphans = true }
+
+-- the rows of files, and of what is wanted beside them
 abbrev pub files_and : Leftovers → Selection
-files_and leftovers = record { files = true; deleted = leftovers.deleted }
+files_and leftovers = record { files = true; deleted = leftovers.deleted; orphans = leftovers.orphans }

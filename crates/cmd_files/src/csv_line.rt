@@ -5,15 +5,18 @@ ghost use Rattle.csv.specs.Records.{fields_of, partial_of};
 ghost use Rattle.out_messages.specs.FileText.{kind_letters};
 ghost use Rattle.cmd_files.specs.FileRow.{decimal_or_empty, truth_or_empty, name_fields, type_fields, entry_fields, way_fields, content_fields, state_fields, file_fields};
 ghost use Rattle.cmd_files.specs.DeletedRow.{deleted_fields};
+ghost use Rattle.cmd_files.specs.OrphanRow.{orphan_fields};
+ghost use Rattle.out_json_csv.specs.Rows.{host_field};
 ghost use Rattle.cmd_files.specs.CsvRow.{place_fields, row_fields, leftover_columns, leftover_fields, leftover_blanks, csv_row, columns, header_row, name_alone, unanswered_row};
 ghost use Rattle.out_json_csv.specs.Unanswered.{no_dump_error};
 
 use crate::deleted_field::push_deleted_fields;
+use crate::orphan_field::push_orphan_fields;
 use crate::spaced::{spell_flaws, spell_numbers};
 use csv::ByteRecord;
 use d64_files::{Kind, name_in};
 use d64_inventory::{Content, FileRow};
-use d64_leftovers::{DeletedRow, Row};
+use d64_leftovers::{DeletedRow, OrphanRow, Row};
 use out_json_csv::{
     Scratch, UNREAD, end_row, no_dump_error, push_boolean, push_field, push_fields,
     push_hexadecimal, push_host_name, push_name, push_number, push_pair,
@@ -75,7 +78,7 @@ fn push_kind(line: &mut ByteRecord, kind: Option<Kind>) -> Result<(), AllocError
 }
 
 /// Appends a number to a row, or an empty field.
-fn push_count(line: &mut ByteRecord, count: Option<usize>) -> Result<(), AllocError>
+pub(crate) fn push_count(line: &mut ByteRecord, count: Option<usize>) -> Result<(), AllocError>
     requires { partial_of line.old ≡ [] }
     ensures fields { OnOk result (fields_of line.new ≡ fields_of line.old ++ decimal_or_empty count ∷ []) }
     ensures whole { OnOk result (partial_of line.new ≡ []) }
@@ -248,7 +251,26 @@ fn begin_deleted_row(
     push_deleted_fields(&mut scratch.text, &mut scratch.row, file)
 }
 
-/// Begins the row of a file, also of a deleted one.
+/// Begins the row of an orphan, which has no slot.
+fn begin_orphan_row(scratch: &mut Scratch, name: &[u8], chain: &OrphanRow) -> Result<(), AllocError>
+    ensures fields { OnOk result (fields_of scratch.new.row ≡ (host_field name.now ∷ [] ∷ []) ++ orphan_fields chain.now) }
+    ensures whole { OnOk result (partial_of scratch.new.row ≡ []) }
+{
+    begin_orphan_place(scratch, name)?;
+    push_orphan_fields(&mut scratch.text, &mut scratch.row, chain)
+}
+
+/// Begins a row: the name of the image, and no slot.
+fn begin_orphan_place(scratch: &mut Scratch, name: &[u8]) -> Result<(), AllocError>
+    ensures fields { OnOk result (fields_of scratch.new.row ≡ host_field name.now ∷ [] ∷ []) }
+    ensures whole { OnOk result (partial_of scratch.new.row ≡ []) }
+{
+    scratch.row.clear();
+    push_host_name(&mut scratch.text, &mut scratch.row, name)?;
+    push_field(&mut scratch.row, b"")
+}
+
+/// Begins the row of a file, also of a deleted one, or of an orphan.
 #[tactic(auto, unfolding(crate::specs::CsvRow::row_fields))]
 pub(crate) fn begin_row(scratch: &mut Scratch, name: &[u8], row: &Row) -> Result<(), AllocError>
     ensures fields { OnOk result (fields_of scratch.new.row ≡ row_fields name.now row.now) }
@@ -257,6 +279,7 @@ pub(crate) fn begin_row(scratch: &mut Scratch, name: &[u8], row: &Row) -> Result
     match row {
         Row::File(file) => begin_file_row(scratch, name, file),
         Row::Deleted(file) => begin_deleted_row(scratch, name, file),
+        Row::Orphan(chain) => begin_orphan_row(scratch, name, chain),
     }
 }
 
@@ -273,6 +296,9 @@ pub(crate) fn push_leftover_fields(
     if leftovers.deleted {
         push_boolean(line, row.is_deleted())?;
     }
+    if leftovers.orphans {
+        push_boolean(line, row.is_orphan())?;
+    }
     Ok(())
 }
 
@@ -288,6 +314,9 @@ pub(crate) fn push_leftover_columns(
     if leftovers.deleted {
         push_field(line, b"deleted")?;
     }
+    if leftovers.orphans {
+        push_field(line, b"orphan")?;
+    }
     Ok(())
 }
 
@@ -301,6 +330,9 @@ pub(crate) fn push_leftover_blanks(
     ensures whole { OnOk result (partial_of line.new ≡ []) }
 {
     if leftovers.deleted {
+        push_field(line, b"")?;
+    }
+    if leftovers.orphans {
         push_field(line, b"")?;
     }
     Ok(())

@@ -174,7 +174,7 @@ fn put_numbers(writer: &mut Writer, numbers: &[u8]) -> Result<(), AllocError>
 }
 
 /// Prints why a file is not whole.
-fn put_why(writer: &mut Writer, flaws: &[Flaw]) -> Result<(), AllocError>
+pub(crate) fn put_why(writer: &mut Writer, flaws: &[Flaw]) -> Result<(), AllocError>
     ensures before { writer.new.before ≡ writer.old.before }
     ensures tokens { OnOk result (writer.new.tokens ≡ writer.old.tokens ++ member_tokens ((codes "why", array_of (map flaw_value flaws.now)) ∷ [])) }
 {

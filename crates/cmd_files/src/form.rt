@@ -23,6 +23,7 @@ impl Form {
         Selection {
             files: true,
             deleted: self.leftovers.deleted,
+            orphans: self.leftovers.orphans,
         }
     }
 

@@ -3,14 +3,16 @@ ghost use Rattle.std.specs.Prelude.{◌≡◌, ◌++◌, OnOk, IfOk};
 ghost use Rattle.out_json_csv.specs.Values.{line_of, member_tokens};
 ghost use Rattle.cmd_files.specs.FileObject.{file_members};
 ghost use Rattle.cmd_files.specs.DeletedObject.{deleted_members};
-ghost use Rattle.cmd_files.specs.RowObject.{place_members, row_members, leftover_members, row_object};
+ghost use Rattle.cmd_files.specs.OrphanObject.{orphan_members};
+ghost use Rattle.cmd_files.specs.RowObject.{place_members, orphan_place, row_members, leftover_members, row_object};
 
 use crate::deleted_member::put_deleted_members;
 use crate::file_member::put_file_members;
+use crate::orphan_member::put_orphan_members;
 use d64_inventory::FileRow;
-use d64_leftovers::{DeletedRow, Row};
+use d64_leftovers::{DeletedRow, OrphanRow, Row};
 use json::Writer;
-use out_json_csv::{Scratch, into_line, put_boolean, put_image, put_number};
+use out_json_csv::{Scratch, into_line, put_boolean, put_image, put_null, put_number};
 use program_arguments::Leftovers;
 use std::alloc::AllocError;
 
@@ -56,6 +58,33 @@ fn put_placed_deleted(
     put_deleted_members(scratch, writer, file)
 }
 
+/// Prints what is told of an orphan, with its place: it has no slot.
+fn put_placed_orphan(
+    scratch: &mut Vec<u8>,
+    writer: &mut Writer,
+    name: &[u8],
+    chain: &OrphanRow,
+) -> Result<(), AllocError>
+    ensures before { writer.new.before ≡ writer.old.before }
+    ensures tokens { OnOk result (writer.new.tokens ≡ writer.old.tokens ++ member_tokens (orphan_place name.now ++ orphan_members chain.now)) }
+{
+    put_orphan_place(scratch, writer, name)?;
+    put_orphan_members(scratch, writer, chain)
+}
+
+/// Prints the image of an orphan, and that it has no slot.
+fn put_orphan_place(
+    scratch: &mut Vec<u8>,
+    writer: &mut Writer,
+    name: &[u8],
+) -> Result<(), AllocError>
+    ensures before { writer.new.before ≡ writer.old.before }
+    ensures tokens { OnOk result (writer.new.tokens ≡ writer.old.tokens ++ member_tokens (orphan_place name.now)) }
+{
+    put_image(scratch, writer, name)?;
+    put_null(writer, "slot")
+}
+
 /// Prints the members of a row, with its place.
 #[tactic(auto, unfolding(crate::specs::RowObject::row_members))]
 pub(crate) fn put_row_members(
@@ -70,10 +99,12 @@ pub(crate) fn put_row_members(
     match row {
         Row::File(file) => put_placed_file(scratch, writer, name, file),
         Row::Deleted(file) => put_placed_deleted(scratch, writer, name, file),
+        Row::Orphan(chain) => put_placed_orphan(scratch, writer, name, chain),
     }
 }
 
-/// Prints whether the file of a row was deleted, if deleted files are wanted.
+/// Prints whether the file of a row was deleted, if deleted files are wanted, and whether it is an
+/// orphan, if those are.
 pub(crate) fn put_leftover_members(
     leftovers: Leftovers,
     writer: &mut Writer,
@@ -84,6 +115,9 @@ pub(crate) fn put_leftover_members(
 {
     if leftovers.deleted {
         put_boolean(writer, "deleted", row.is_deleted())?;
+    }
+    if leftovers.orphans {
+        put_boolean(writer, "orphan", row.is_orphan())?;
     }
     Ok(())
 }

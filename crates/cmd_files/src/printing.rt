@@ -1,6 +1,6 @@
 //! Printing the files of an image, in one of the three formats.
 ghost use Rattle.std.specs.Prelude.{◌≡◌, ◌++◌, IfOk, OnOk, length};
-ghost use Rattle.cmd_files.specs.Files.{printed_row, before_rows, after_rows, printed_rows, under_heading, deleted_section, all_rows, printed_of, printed_unread, printed_wrong_length, heading_of};
+ghost use Rattle.cmd_files.specs.Files.{printed_row, before_rows, after_rows, printed_rows, under_heading, is_section_wanted, section_rows, section_heading, section_of, all_rows, printed_of, printed_unread, printed_wrong_length, heading_of};
 
 use crate::csv_line::{files_header, no_dump_file_csv, row_csv, unread_file_csv};
 use crate::form::Form;
@@ -12,20 +12,68 @@ use d64_image::Image;
 use d64_leftovers::{Row, RowList, Selection};
 use d64_survey::{Inspection, Survey};
 use out_json_csv::{Scratch, no_dump_json, unread_json};
-use program_arguments::Format;
+use program_arguments::{Format, Leftovers};
 use std::alloc::AllocError;
 
 /// The rows of files alone.
 const FILES_ALONE: Selection = Selection {
     files: true,
     deleted: false,
+    orphans: false,
 };
 
 /// The rows of deleted files alone.
 const DELETED_ALONE: Selection = Selection {
     files: false,
     deleted: true,
+    orphans: false,
 };
+
+/// The rows of orphans alone.
+const ORPHANS_ALONE: Selection = Selection {
+    files: false,
+    deleted: false,
+    orphans: true,
+};
+
+/// What stands under a heading of its own in a table.
+#[derive(Clone, Copy)]
+enum Section {
+    Deleted,
+    Orphans,
+}
+
+impl Section {
+    /// Whether it is wanted.
+    fn is_wanted(self, leftovers: Leftovers) -> bool
+        ensures { result ≡ is_section_wanted self leftovers }
+    {
+        match self {
+            Section::Deleted => leftovers.deleted,
+            Section::Orphans => leftovers.orphans,
+        }
+    }
+
+    /// Its rows.
+    fn rows(self) -> Selection
+        ensures { result ≡ section_rows self }
+    {
+        match self {
+            Section::Deleted => DELETED_ALONE,
+            Section::Orphans => ORPHANS_ALONE,
+        }
+    }
+
+    /// Its heading, with a line feed.
+    fn heading(self) -> &'static [u8]
+        ensures { result.now ≡ section_heading self }
+    {
+        match self {
+            Section::Deleted => b"deleted\n",
+            Section::Orphans => b"in no directory\n",
+        }
+    }
+}
 
 /// Appends what is printed before the first result.
 pub(crate) fn print_heading(
@@ -82,23 +130,24 @@ fn print_rows(
     Ok(text)
 }
 
-/// Appends what is printed of deleted files in a table, under a heading, if they are wanted.
-fn print_deleted(
+/// Appends what is printed of rows in a table, under a heading, if they are wanted.
+fn print_section(
     form: Form,
+    section: Section,
     scratch: &mut Scratch,
     name: &[u8],
     all: &Inspection,
     out: Vec<u8>,
 ) -> Result<Vec<u8>, AllocError>
-    ensures { IfOk result (λ text. text.items ≡ out.items ++ deleted_section form name.now all.now) }
+    ensures { IfOk result (λ text. text.items ≡ out.items ++ section_of form section name.now all.now) }
 {
-    if !form.leftovers.deleted {
+    if !section.is_wanted(form.leftovers) {
         return Ok(out);
     }
     let lines = Vec::new(*scratch.text.allocator());
-    let lines = print_rows(form, DELETED_ALONE, scratch, name, all, lines)?;
+    let lines = print_rows(form, section.rows(), scratch, name, all, lines)?;
     let mut text = out;
-    push_under_heading(&mut text, b"deleted\n", &lines)?;
+    push_under_heading(&mut text, section.heading(), &lines)?;
     Ok(text)
 }
 
@@ -127,7 +176,8 @@ fn print_all_rows(
     match form.format {
         Format::Text => {
             let files = print_rows(form, FILES_ALONE, scratch, name, all, out)?;
-            print_deleted(form, scratch, name, all, files)
+            let files = print_section(form, Section::Deleted, scratch, name, all, files)?;
+            print_section(form, Section::Orphans, scratch, name, all, files)
         }
         Format::Json | Format::Csv => { print_rows(form, form.wanted(), scratch, name, all, out) }
     }

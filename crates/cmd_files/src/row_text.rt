@@ -3,6 +3,7 @@ ghost use Rattle.std.specs.Prelude.{◌≡◌, ◌++◌, OnOk};
 ghost use Rattle.cmd_files.specs.RowText.{row_text, row_line};
 
 use crate::deleted_table::push_deleted_text;
+use crate::orphan_table::push_orphan_text;
 use crate::table::push_file_text;
 use d64_leftovers::Row;
 use d64_survey::Survey;
@@ -20,6 +21,7 @@ pub(crate) fn push_row_text(
     match row {
         Row::File(file) => push_file_text(scratch, out, file),
         Row::Deleted(file) => push_deleted_text(scratch, out, survey, file),
+        Row::Orphan(chain) => push_orphan_text(scratch, out, chain),
     }
 }
 

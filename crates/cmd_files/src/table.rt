@@ -12,10 +12,10 @@ use out_messages::{kind_letters, push_flaws, push_label, push_quoted};
 use std::alloc::AllocError;
 
 /// The width of the size, in columns.
-const SIZE_COLUMNS: usize = 5;
+pub(crate) const SIZE_COLUMNS: usize = 5;
 
 /// The width of the name in quotes, in columns.
-const NAME_COLUMNS: usize = 18;
+pub(crate) const NAME_COLUMNS: usize = 18;
 
 /// Appends `count` spaces.
 fn push_spaces(out: &mut Vec<u8>, count: usize) -> Result<(), AllocError>
@@ -26,7 +26,7 @@ fn push_spaces(out: &mut Vec<u8>, count: usize) -> Result<(), AllocError>
 }
 
 /// Appends a text, right-aligned to this width.
-fn push_right(out: &mut Vec<u8>, width: usize, text: &[u8]) -> Result<(), AllocError>
+pub(crate) fn push_right(out: &mut Vec<u8>, width: usize, text: &[u8]) -> Result<(), AllocError>
     requires { width ≤ 18 }
     ensures { OnOk result (out.new.items ≡ out.old.items ++ right_in width text.now) }
 {
@@ -35,7 +35,7 @@ fn push_right(out: &mut Vec<u8>, width: usize, text: &[u8]) -> Result<(), AllocE
 }
 
 /// Appends a text, left-aligned to this width.
-fn push_left(out: &mut Vec<u8>, width: usize, text: &[u8]) -> Result<(), AllocError>
+pub(crate) fn push_left(out: &mut Vec<u8>, width: usize, text: &[u8]) -> Result<(), AllocError>
     requires { width ≤ 18 }
     ensures { OnOk result (out.new.items ≡ out.old.items ++ left_in width text.now) }
 {
@@ -149,7 +149,7 @@ pub(crate) fn push_name(
     push_left(out, NAME_COLUMNS, scratch.as_slice())
 }
 
-/// Appends the text of a file: the size that the directory gives, the name, the kind, whether it is
+/// Appends the text of a file: the size that the directory has, the name, the kind, whether it is
 /// whole or what is wrong with it, and whether it is locked.
 #[tactic(auto, unfolding(crate::specs::FileTable::file_text))]
 pub(crate) fn push_file_text(

@@ -1,4 +1,4 @@
--- The row of a deleted file, field by field.
+-- What is told of a deleted file, field by field.
 use Rattle.std.proofs.Common.{◌≡◌, ℕ, List, length}
 use Rattle.std.specs.List.{find}
 use Rattle.d64_files.specs.Slot.{size_of, first_pair, field_of}
@@ -9,7 +9,7 @@ use Rattle.d64_scratched.specs.Scratched.{losses}
 use Rattle.d64_inventory.specs.Contents.{digested_along}
 use Rattle.d64_leftovers.specs.Deleted.{DeletedRowView, unreadable_count, deleted_row}
 
--- each field of a row is what the row of a numbered slot of the dump has
+-- what a row tells is so
 pub record AreTold (dump : DumpView) (numbered : ℕ × List ℕ) (row : DeletedRowView) : Type 0 where
   pub slot : row.slot ≡ numbered.0
   pub field : row.field ≡ field_of numbered.1
@@ -21,7 +21,7 @@ pub record AreTold (dump : DumpView) (numbered : ℕ × List ℕ) (row : Deleted
   pub reused : row.reused ≡ find (is_owned dump.image) (way dump.image (first_pair numbered.1)).0
   pub read_errors : row.read_errors ≡ unreadable_count dump.codes (way dump.image (first_pair numbered.1)).0
 
--- a row with these fields is the row of that slot
+-- so it is the row
 pub row_is : (dump : DumpView) (numbered : ℕ × List ℕ) (row : DeletedRowView) → AreTold dump numbered row → row ≡ deleted_row dump numbered
 unfolding deleted_row
 row_is dump numbered row t = λ i. record {

@@ -1,5 +1,5 @@
 -- The rows of files alone.
-use Rattle.std.proofs.Common.{◌≡◌, ℕ, Bool, true, false, cond, List, [], ◌∷◌, map, Some, None, refl, ap}
+use Rattle.std.proofs.Common.{◌≡◌, ℕ, Bool, true, false, cond, List, [], ◌∷◌, map, Some, None, refl, ap, ◌∙◌, append-nil}
 use Rattle.std.specs.Prelude.{filter}
 use Rattle.std.specs.List.{cons_option, filter_map}
 use Rattle.d64_files.specs.Directory.{numbered_slots}
@@ -13,7 +13,7 @@ use Rattle.d64_leftovers.specs.declared.row.Row.TheVariants.{File}
 use Rattle.d64_leftovers.specs.declared.selection.Selection.{Selection}
 
 abbrev alone : Selection
-alone = record { files = true; deleted = false }
+alone = record { files = true; deleted = false; orphans = false }
 
 rows_of_files : (dump : DumpView) (slots : List (ℕ × List ℕ)) → filter_map (row_of_slot alone dump) slots ≡ map File (map (row_of dump) (filter (λ (s : ℕ × List ℕ). is_used s.1) slots))
 rows_of_files dump [] = refl
@@ -27,4 +27,4 @@ rows_of_files dump (slot ∷ slots) = by_use (is_used slot.1) (rows_of_files dum
 
 pub files_alone : FilesAloneAreTheInventory
 unfolding rows file_rows
-files_alone dump = rows_of_files dump (numbered_slots (way_slots dump.image))
+files_alone dump = append-nil (filter_map (row_of_slot alone dump) (numbered_slots (way_slots dump.image))) ∙ rows_of_files dump (numbered_slots (way_slots dump.image))

@@ -1,3 +1,5 @@
 pub mod DeletedRows
 pub mod FileRows
+pub mod LeftBlocks
+pub mod OrphanRows
 pub mod RowLists

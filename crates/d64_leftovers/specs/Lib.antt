@@ -1,3 +1,4 @@
 pub mod Deleted
+pub mod Orphans
 pub mod Rows
 pub mod Sources

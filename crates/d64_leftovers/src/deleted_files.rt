@@ -35,7 +35,7 @@ impl<'a> Model for DeletedFiles<'a> {
 }
 
 /// Returns the field of an entry's name.
-fn field_of(entry: &Entry) -> [u8; 16]
+pub(crate) fn field_of(entry: &Entry) -> [u8; 16]
     ensures { result ≡ field_of entry.now.bytes }
 {
     let mut field = [0; 16];
@@ -44,7 +44,7 @@ fn field_of(entry: &Entry) -> [u8; 16]
 }
 
 /// Returns how many of the blocks have a read error.
-fn unreadable_count(codes: Option<&[u8]>, blocks: &[BlockNo]) -> usize
+pub(crate) fn unreadable_count(codes: Option<&[u8]>, blocks: &[BlockNo]) -> usize
     ensures { result ≡ unreadable_count (option_map (λ codes. codes.now) codes.entry) blocks.now }
 {
     blocks

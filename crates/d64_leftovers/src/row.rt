@@ -1,17 +1,20 @@
-//! `Row`: the row of a file that is there, or of a deleted one.
+//! `Row`: what is told of a file that is there, of a deleted one, or of an orphan.
 ghost use Rattle.std.specs.Prelude.{◌≡◌};
-ghost use Rattle.d64_leftovers.specs.Rows.{is_deleted};
+ghost use Rattle.d64_leftovers.specs.Rows.{is_deleted, is_orphan};
 
 use crate::deleted_row::DeletedRow;
+use crate::orphan_row::OrphanRow;
 use d64_inventory::FileRow;
 
-/// The row of a file, which is there or was deleted.
+/// What is told of a file, or of what is left of one.
 #[derive(Debug, Drop)]
 pub enum Row {
     /// The row of the file of a used slot.
     File(FileRow),
     /// The row of the deleted file of a scratched slot.
     Deleted(DeletedRow),
+    /// Of a chain of blocks that no slot leads to.
+    Orphan(OrphanRow),
 }
 
 impl Row {
@@ -20,8 +23,18 @@ impl Row {
         ensures { result ≡ is_deleted self.now }
     {
         match self {
-            Row::File(_) => false,
+            Row::File(_) | Row::Orphan(_) => false,
             Row::Deleted(_) => true,
+        }
+    }
+
+    /// Whether it is the row of an orphan.
+    pub fn is_orphan(&self) -> bool
+        ensures { result ≡ is_orphan self.now }
+    {
+        match self {
+            Row::File(_) | Row::Deleted(_) => false,
+            Row::Orphan(_) => true,
         }
     }
 }

@@ -1,8 +1,8 @@
 //! The rows of a dump that are wanted, one at a time.
-ghost use Rattle.std.specs.Prelude.{◌≡◌, ◌∷◌, [], MatchOption};
+ghost use Rattle.std.specs.Prelude.{◌≡◌, ◌∷◌, ◌++◌, [], MatchOption};
 ghost use Rattle.std.specs.Iterator.{YieldsFirst, item_count};
 ghost use Rattle.d64_leftovers.specs.Rows.{rows};
-ghost use Rattle.d64_leftovers.specs.Sources.{rows_from};
+ghost use Rattle.d64_leftovers.specs.Sources.{rows_from, orphans_from};
 
 use crate::row::Row;
 use crate::selection::Selection;
@@ -11,34 +11,43 @@ use d64_files::SlotNo;
 use d64_survey::Inspection;
 use std::marker::Model;
 
-/// A row, and the place of the slot after its own.
+/// A row, and the place after its own.
 #[derive(Drop)]
 struct Found {
     row: Row,
     next: usize,
 }
 
-/// An iterator over the wanted rows of a dump, in the order of the slots. It takes no memory.
-///
-/// In clauses it is the list of the rows that are left.
+/// A row, and what is left after it: the places of the next slot and of the next block.
+#[derive(Drop)]
+struct Step {
+    row: Row,
+    slot: usize,
+    left: usize,
+}
+
+/// The rows of a dump that are left of a walk along its slots, in the order of the slots, and then
+/// along the blocks that are left over. It takes no memory.
 #[derive(Drop)]
 pub struct RowList<'a> {
     source: Source<'a>,
     /// The place of the next slot, from 0.
-    place: usize,
+    slot: usize,
+    /// The place of the next block among those that are left over, from 0.
+    left: usize,
 }
 
 impl<'a> Model for RowList<'a> {
-    ghost use Rattle.std.specs.Prelude.{List};
-    ghost use Rattle.d64_leftovers.specs.Sources.{rows_from};
+    ghost use Rattle.std.specs.Prelude.{◌++◌, List};
+    ghost use Rattle.d64_leftovers.specs.Sources.{rows_from, orphans_from};
     ghost use Rattle.d64_leftovers.specs.declared.row.Row.{Row};
 
     ghost Value = { List Row };
 
-    ghost view = { λ list. rows_from list.source list.place };
+    ghost view = { λ list. rows_from list.source list.slot ++ orphans_from list.source list.left };
 }
 
-/// Returns the first row from a place on, or None if no slot from there on has one.
+/// The first row of a slot from a place on, or None if no slot from there on has one.
 fn first_from(source: &mut Source, place: usize) -> Option<Found>
     ensures found { MatchOption result (rows_from source.old place ≡ []) (λ found. rows_from source.old place ≡ found.row ∷ rows_from source.old found.next) }
     ensures same { source.new ≡ source.old }
@@ -52,6 +61,51 @@ fn first_from(source: &mut Source, place: usize) -> Option<Found>
     None
 }
 
+/// The first row of an orphan whose head is a block from a place on, or None if there is none.
+fn orphan_from(source: &mut Source, place: usize) -> Option<Found>
+    ensures found { MatchOption result (orphans_from source.old place ≡ []) (λ found. orphans_from source.old place ≡ found.row ∷ orphans_from source.old found.next) }
+    ensures same { source.new ≡ source.old }
+{
+    for at in place..source.left_count() {
+        match source.orphan(at) {
+            Some(row) => return Some(Found { row, next: at + 1 }),
+            None => {}
+        }
+    }
+    None
+}
+
+/// The first row of an orphan, where no row of a slot is left.
+fn orphan_step(source: &mut Source, left: usize) -> Option<Step>
+    ensures found { MatchOption result (orphans_from source.old left ≡ []) (λ step. orphans_from source.old left ≡ step.row ∷ (rows_from source.old step.slot ++ orphans_from source.old step.left)) }
+    ensures same { source.new ≡ source.old }
+{
+    let slot = source.slot_count();
+    match orphan_from(source, left) {
+        Some(found) => Some(Step {
+            row: found.row,
+            slot,
+            left: found.next,
+        }),
+        None => None,
+    }
+}
+
+/// The first row of those that are left.
+fn first_step(source: &mut Source, slot: usize, left: usize) -> Option<Step>
+    ensures found { MatchOption result (rows_from source.old slot ++ orphans_from source.old left ≡ []) (λ step. rows_from source.old slot ++ orphans_from source.old left ≡ step.row ∷ (rows_from source.old step.slot ++ orphans_from source.old step.left)) }
+    ensures same { source.new ≡ source.old }
+{
+    match first_from(source, slot) {
+        Some(found) => Some(Step {
+            row: found.row,
+            slot: found.next,
+            left,
+        }),
+        None => orphan_step(source, left),
+    }
+}
+
 impl<'a> RowList<'a> {
     /// Returns the wanted rows of a dump that was inspected.
     pub fn of(inspection: &'a Inspection<'a>, wanted: Selection) -> RowList<'a>
@@ -59,7 +113,8 @@ impl<'a> RowList<'a> {
     {
         RowList {
             source: Source::of(inspection, wanted),
-            place: 0,
+            slot: 0,
+            left: 0,
         }
     }
 }
@@ -72,10 +127,11 @@ impl<'a> Iterator for RowList<'a> {
     ghost remaining = { item_count (λ left. left) };
 
     fn next(&mut self) -> Option<Row> {
-        match first_from(&mut self.source, self.place) {
-            Some(found) => {
-                self.place = found.next;
-                Some(found.row)
+        match first_step(&mut self.source, self.slot, self.left) {
+            Some(step) => {
+                self.slot = step.slot;
+                self.left = step.left;
+                Some(step.row)
             }
             None => None,
         }

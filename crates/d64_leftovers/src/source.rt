@@ -6,11 +6,12 @@ ghost use Rattle.d64_survey.specs.Inspection.{slot_cell};
 ghost use Rattle.d64_scratched.specs.Scratched.{is_scratched};
 ghost use Rattle.d64_inventory.specs.Rows.{row_of};
 ghost use Rattle.d64_leftovers.specs.Deleted.{deleted_row};
-ghost use Rattle.d64_leftovers.specs.Rows.{row_of_slot};
-ghost use Rattle.d64_leftovers.specs.Sources.{row_at};
+ghost use Rattle.d64_leftovers.specs.Rows.{row_of_slot, blocks_wanted};
+ghost use Rattle.d64_leftovers.specs.Sources.{row_at, orphan_at};
 ghost use Rattle.d64_leftovers.specs.declared.row.Row.TheVariants.{File, Deleted};
 
 use crate::deleted_files::DeletedFiles;
+use crate::orphans::Orphans;
 use crate::row::Row;
 use crate::selection::Selection;
 use d64_files::{Entry, SlotNo};
@@ -29,6 +30,8 @@ pub(crate) struct Source<'a> {
     with_files: bool,
     /// None if deleted files aren't wanted.
     deleted: Option<DeletedFiles<'a>>,
+    /// None if orphans aren't wanted.
+    orphans: Option<Orphans<'a>>,
 }
 
 impl<'a> Model for Source<'a> {
@@ -39,11 +42,12 @@ impl<'a> Model for Source<'a> {
 
     ghost view = { λ source. record {
       dump = source.inspection.now;
-      wanted = record { files = source.with_files; deleted = is_some source.deleted };
+      wanted = record { files = source.with_files; deleted = is_some source.deleted; orphans = is_some source.orphans };
     } };
 
     ghost invariant = { λ source. (source.inventory ≡ source.inspection.now)
-        × IfSome source.deleted (λ deleted. deleted ≡ source.inspection.now) };
+        × IfSome source.deleted (λ deleted. deleted ≡ source.inspection.now)
+        × IfSome source.orphans (λ orphans. orphans ≡ source.inspection.now) };
 }
 
 impl<'a> Source<'a> {
@@ -56,11 +60,43 @@ impl<'a> Source<'a> {
         } else {
             None
         };
+        let orphans = if wanted.orphans {
+            Some(Orphans::of(inspection))
+        } else {
+            None
+        };
         Source {
             inspection,
             inventory: Inventory::of(inspection),
             with_files: wanted.files,
             deleted,
+            orphans,
+        }
+    }
+
+    /// How many blocks are left over, of which some may be heads of orphans; none if those aren't
+    /// wanted.
+    pub(crate) fn left_count(&self) -> usize
+        ensures { result ≡ length (blocks_wanted self.now.wanted self.now.dump) }
+    {
+        match &self.orphans {
+            Some(orphans) => orphans.left_count(),
+            None => 0,
+        }
+    }
+
+    /// The row of the orphan whose head is the block at a place among those, or None if there is no
+    /// such block, or it is no head.
+    pub(crate) fn orphan(&mut self, place: usize) -> Option<Row>
+        ensures row { result ≡ orphan_at self.old place }
+        ensures same { self.new ≡ self.old }
+    {
+        match &self.orphans {
+            Some(orphans) => match orphans.head_at(place) {
+                Some(head) => Some(Row::Orphan(orphans.row(&mut self.inventory, head))),
+                None => None,
+            },
+            None => None,
         }
     }
 

@@ -28,6 +28,10 @@ use Rattle.cmd_shell.specs.Beginnings.{Beginning, beginning_of, home_of, Source,
 abbrev pub form_of : Format → Leftovers → Form
 form_of format leftovers = record { format = format; leftovers = leftovers }
 
+-- the options of an extraction that the arguments give, in a form of the output
+abbrev pub setup_of : AskedExtraction → Form → SetupView
+setup_of asked form = record { into = string_bytes asked.into; with_parts = asked.part; skips = asked.skip_existing; form = form }
+
 -- what a merge of these files is asked for by the words, in a form of the output
 abbrev pub merge_setup_of : AskedMerging → DiffForm → List (List ℕ) → MergeView
 merge_setup_of asked form files = record {

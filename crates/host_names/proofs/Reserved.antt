@@ -37,7 +37,7 @@ spaced_differs front rest word spaceless =
     list_all-append (λ byte. not (byte == 32)) (lower front) (32 ∷ lower rest) ∙ and_false (has_no_space (lower front)) in
     both_ways (has_no_space (lower word)) (ap has_no_space (sym is) ∙ none) spaceless)
 
--- so is no name of a list in which no name has a space
+-- nor any of some words that have none
 spaced_among : (front rest : List ℕ) (words : List (List ℕ)) → list_all (λ word. has_no_space (str_to_ascii_lowercase word)) words ≡ true
     → list_any (is_same_name (front ++ 32 ∷ rest)) words ≡ false
 spaced_among front rest [] spaceless = refl
@@ -85,7 +85,7 @@ underscored : (rest : List ℕ) → is_reserved (underscore ∷ rest) ≡ false
 unfolding is_reserved
 underscored rest = or_from (list_any (is_same_name (underscore ∷ rest)) devices) (is_port (underscore ∷ rest)) refl (no_port_word (underscore ∷ rest) refl)
 
--- ---- the part before the first full stop
+-- ---- what stands before the first full stop
 
 before_stop : (byte : ℕ) (name : List ℕ) → (byte == full_stop) ≡ true → before_dot (byte ∷ name) ≡ []
 before_stop byte name is = ap (λ (t : Bool). take (if not t then 1 + position_or_len (λ b. b == full_stop) name else 0) (byte ∷ name)) is
@@ -96,8 +96,7 @@ before_other byte name is =
     ap (λ (t : Bool). take (if not t then 1 + position_or_len (λ b. b == full_stop) name else 0) (byte ∷ name)) is
     ∙ ap (λ (n : ℕ). take n (byte ∷ name)) more
 
--- the first full stop of two joined lists: it is in the first list, or all of the first list comes
--- before it
+-- before the first one of two lists: it stands in the first list, or all of that stands before it
 before-append : (front rest : List ℕ) → (before_dot (front ++ rest) ≡ before_dot front)
     ⊎ ((before_dot (front ++ rest) ≡ front ++ before_dot rest) × (before_dot front ≡ front))
 before-append [] rest = inr (refl, refl)
@@ -112,7 +111,7 @@ before-append (byte ∷ front) rest = by_test (before-append front rest) (byte =
     by_test (inr both) false is =
         inr (before_other byte (front ++ rest) is ∙ ap (λ (bs : List ℕ). byte ∷ bs) both.0, before_other byte front is ∙ ap (λ (bs : List ℕ). byte ∷ bs) both.1)
 
--- nothing comes before the full stop of an ending
+-- nothing stands before the full stop of an end
 before_tail : (ending : Ending) (is_part : Bool) → before_dot (tail ending is_part) ≡ []
 unfolding tail ending_text part_text
 before_tail Del is_part = before_stop 46 (codes "del" ++ part_text is_part) refl

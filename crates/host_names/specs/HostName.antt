@@ -1,4 +1,4 @@
--- The name that a file of an image gets on a host, if no other file has it.
+-- The name that a file of an image gets on a host, where no other file has it.
 use Rattle.std.specs.Prelude.{ℕ, ◌-◌, ◌==◌, ◌&&◌, ◌||◌, nat_eq, Bool, if◌then◌else◌, List, [], ◌∷◌, ◌++◌, length, map, take, slice_index, slice_set, codes, decimal}
 use Rattle.std.specs.Int.{is_in_range}
 use Rattle.std.specs.List.{list_any, before_first}
@@ -19,39 +19,39 @@ slash = 47
 abbrev pub underscore : ℕ
 underscore = 95
 
--- the characters that some host accepts in no name: / \ < > : " | ? *
+-- the characters that some host takes in no name: / \ < > : " | ? *
 unfoldable pub forbidden_characters : List ℕ
 forbidden_characters = codes "/\\<>:\"|?*"
 
--- whether a byte is one of the forbidden characters
+-- a byte is one of them
 unfoldable pub is_forbidden : ℕ → Bool
 is_forbidden byte = list_any (nat_eq byte) forbidden_characters
 
--- a name in which each forbidden character is replaced by `_`
+-- a name in which each of them became `_`
 unfoldable pub allowed_name : List ℕ → List ℕ
 allowed_name name = map (λ byte. if is_forbidden byte then underscore else byte) name
 
--- a name in which a `.` at the beginning is replaced by `_`
+-- a name whose first byte, where it was a `.`, became `_`
 abbrev pub unhidden_name : List ℕ → List ℕ
 unhidden_name name = if slice_index name 0 == full_stop then slice_set name 0 underscore else name
 
--- whether some host accepts no name that ends with this byte: `.` or a space
+-- a byte with which no name ends on some host: `.` or a space
 abbrev pub is_loose : ℕ → Bool
 is_loose byte = byte == full_stop || byte == space
 
--- a name in which a `.` or space at the end is replaced by `_`
+-- a name whose last byte, where it was a `.` or a space, became `_`
 abbrev pub closed_name : List ℕ → List ℕ
 closed_name name = if is_loose (slice_index name (length name - 1)) then slice_set name (length name - 1) underscore else name
 
--- a name, or `_` if it is empty
+-- a name that was empty became `_`
 abbrev pub filled_name : List ℕ → List ℕ
 filled_name name = if length name == 0 then underscore ∷ [] else name
 
--- whether two names are the same if small and capital letters count as the same
+-- two names are the same where small and capital letters are taken as one
 abbrev pub is_same_name : List ℕ → List ℕ → Bool
 is_same_name one other = str_eq_ignore_ascii_case one other
 
--- the part of a name before the first `.`, or all of it
+-- what stands before the first `.` of a name, or all of it
 abbrev pub before_dot : List ℕ → List ℕ
 before_dot name = before_first (λ byte. byte == full_stop) name
 
@@ -61,8 +61,8 @@ without_last_spaces [] = []
 without_last_spaces (byte ∷ rest) =
     if byte == space && length (without_last_spaces rest) == 0 then [] else byte ∷ without_last_spaces rest
 
--- the part of a name that some host compares with the names of devices: the part before the first
--- `.`, without the spaces at its end
+-- what some host takes for the name of a device where it is one: what comes before the first `.`,
+-- without the spaces at its end
 abbrev pub device_name : List ℕ → List ℕ
 device_name name = without_last_spaces (before_dot name)
 
@@ -71,27 +71,27 @@ abbrev pub devices : List (List ℕ)
 devices =
     codes "con" ∷ codes "prn" ∷ codes "aux" ∷ codes "nul" ∷ codes "conin$" ∷ codes "conout$" ∷ codes "clock$" ∷ []
 
--- the ports that some host has by a name and a number from 1 to 9
+-- the ports that it has by a name and a number from 1 to 9
 abbrev pub ports : List (List ℕ)
 ports = codes "com" ∷ codes "lpt" ∷ []
 
--- whether a name is that of a port
+-- a name is that of a port
 abbrev pub is_port : List ℕ → Bool
 is_port name =
     (length name == 4)
     && (is_in_range 49 57 (slice_index name 3)
     && list_any (is_same_name (take 3 name)) ports)
 
--- whether a name is that of a device or a port, in any case
+-- a name is that of a device or a port, in any case
 unfoldable pub is_reserved : List ℕ → Bool
 is_reserved name = list_any (is_same_name name) devices || is_port name
 
--- a name with a `_` in front if some host takes it for a device
+-- a name with a `_` in front, if some host takes it for that of a device
 abbrev pub unreserved_name : List ℕ → List ℕ
 unreserved_name name = if is_reserved (device_name name) then underscore ∷ name else name
 
--- the beginning of the host name of a file, by its name in text form: the rules are applied one
--- after another
+-- what the host name of a file begins with whose name is this text: the rules are applied one after
+-- another
 unfoldable pub stem : List ℕ → List ℕ
 stem text = unreserved_name (filled_name (closed_name (unhidden_name (allowed_name text))))
 
@@ -105,23 +105,23 @@ ending_text Rel = codes ".rel"
 ending_text Deleted = codes ".deleted"
 ending_text Orphan = codes ".orphan"
 
--- the text after the ending: `.part` if the file is written in part
+-- what follows the ending: `.part` where the file is written in part
 unfoldable pub part_text : Bool → List ℕ
 part_text is_part = if is_part then codes ".part" else []
 
--- the end of a file's host name
+-- what the host name of a file ends with
 unfoldable pub tail : Ending → Bool → List ℕ
 tail ending is_part = ending_text ending ++ part_text is_part
 
--- the text before the ending in the n-th name that is tried: nothing in the first one, then ` (2)`,
--- ` (3)` and so on
+-- what stands before the ending of the name that is tried in this place: of the first one nothing,
+-- then ` (2)`, ` (3)` and so on
 unfoldable pub mark : ℕ → List ℕ
 mark number = if number == 1 then [] else codes " (" ++ (decimal number ++ codes ")")
 
--- the n-th name that is tried
+-- the name that is tried in this place
 unfoldable pub numbered_name : List ℕ → List ℕ → ℕ → List ℕ
 numbered_name front back number = front ++ (mark number ++ back)
 
--- the first name that is tried, which a file gets if no other file has it
+-- the first one: the name that a file gets where no other file has it
 abbrev pub host_name : List ℕ → Ending → Bool → List ℕ
 host_name text ending is_part = numbered_name (stem text) (tail ending is_part) 1

@@ -8,6 +8,7 @@ use Rattle.program_arguments.specs.Start.{IsStartBy, HasNoAddress}
 use Rattle.program_arguments.specs.Tracks.{IsTracksBy, HasNoTracks}
 use Rattle.program_arguments.specs.Extraction.{HasNoFolder, IsExtractionBy}
 use Rattle.program_arguments.specs.Format.{diff_form_of, form_word, format_of, picture_form_of}
+use Rattle.program_arguments.specs.Leftovers.{IsLeftoversBy}
 use Rattle.program_arguments.specs.Merging.{IsMergingBy}
 use Rattle.program_arguments.specs.Names.{files_by, HasNoNames, HasNullAlone, IsNamesBy}
 use Rattle.program_arguments.specs.Page.{HasNamedPage, IsPageBy, IsPageFault}

@@ -110,6 +110,8 @@ pub struct Extraction {
 pub struct Leftovers {
     /// Whether deleted files are wanted.
     pub deleted: bool,
+    /// Whether chains of blocks are wanted that no entry leads to.
+    pub orphans: bool,
 }
 
 /// How one page of dumps is made.

@@ -3,7 +3,7 @@
 ghost use Rattle.std.specs.Prelude.{◌≡◌, IfOk, false, option_map};
 ghost use Rattle.clap.specs.Words.{App, Rule, app_of, kind_of, new_app, rule_of, with_rule, with_subcommand};
 ghost use Rattle.clap.specs.declared.builder.command.Command.TheViews.{out-Command as fields_of};
-ghost use Rattle.program_arguments.specs.Commands.{bare_app, d64sh, app_named, shell, petcat, crunch, check, files, extract, map, diff, merge, catalogue, survey, with_names, file_argument, image_argument, required_argument, files_argument, with_preference, valued_option, output_option, line_option, stop_flag, flag, with_script};
+ghost use Rattle.program_arguments.specs.Commands.{bare_app, d64sh, app_named, shell, petcat, crunch, check, files, extract, map, diff, merge, catalogue, survey, with_leftovers, with_names, file_argument, image_argument, required_argument, files_argument, with_preference, valued_option, output_option, line_option, stop_flag, flag, with_script};
 ghost use Rattle.program_arguments.specs.Making.{IsArgument, IsMade};
 
 use crate::help::help_of;
@@ -194,7 +194,7 @@ fn check<'a>(alloc: Global) -> Result<Command<'a>, AllocError>
     survey(alloc, command)
 }
 
-/// Returns `files [--deleted]` with the arguments of a survey.
+/// `files [--deleted] [--orphans]` with the words of a survey.
 fn files<'a>(alloc: Global) -> Result<Command<'a>, AllocError>
     ensures { IsMade files result }
 {
@@ -202,7 +202,7 @@ fn files<'a>(alloc: Global) -> Result<Command<'a>, AllocError>
     survey(alloc, command)
 }
 
-/// Returns `extract [--into FOLDER] [--part] [--skip-existing] [--deleted]` with the arguments of a
+/// `extract [--into FOLDER] [--part] [--skip-existing] [--deleted] [--orphans]` with the words of a
 /// survey.
 fn extract<'a>(alloc: Global) -> Result<Command<'a>, AllocError>
     ensures { IsMade extract result }
@@ -230,7 +230,8 @@ fn extract<'a>(alloc: Global) -> Result<Command<'a>, AllocError>
     survey(alloc, command)
 }
 
-/// Adds the option for what is left over beside files to a subcommand: `[--deleted]`.
+/// The subcommand with the words for what is left over beside files: `[--deleted]` and
+/// `[--orphans]`.
 fn with_leftovers<'a>(
     alloc: Global,
     command: Result<Command<'a>, AllocError>,
@@ -242,7 +243,13 @@ fn with_leftovers<'a>(
         "deleted",
         "Also deleted files, and which of them can be brought back",
     );
-    with_argument(command, deleted)
+    let command = with_argument(command, deleted);
+    let orphans = flag(
+        alloc,
+        "orphans",
+        "Also chains of blocks that no entry leads to",
+    );
+    with_argument(command, orphans)
 }
 
 /// Returns `map [--format FORMAT] FILE`.

@@ -86,7 +86,7 @@ manual has the commands of the shell, and what the exit status means:
 const SHELL_USAGE: &str = "d64sh shell [-e] [-c LINE].. [--tracks N] [IMAGE]
        d64sh shell [-e] [-c LINE].. --resume FILE [IMAGE]";
 
-const SHELL_DETAILS: &str = "In:      the script on the standard input, one line a command
+const SHELL_DETAILS: &str = "In:      the script on the standard input, one line per command
 Out:     what each command shows, and a status line for each, `00, OK,00,00`
          if it was accepted
 Example: d64sh shell -c list disk.d64
@@ -137,7 +137,7 @@ Out:     the program as the machine loads it, on the standard output
 Example: d64sh crunch hello.bas -o hello.prg
 
 With --output, FILE is written whole or not at all, and what is wrong with the
-text is reported as NAME:LINE: and why.
+text is reported as NAME:LINE: and the reason.
 
 The manual says more: `man d64sh`, or docs/MANUAL.md beside the source.";
 
@@ -147,7 +147,7 @@ const CHECK_USAGE: &str = "d64sh check [--digest] [--format FORMAT] FILE..
 const CHECK_DETAILS: &str =
     "In:      images of 35 or 40 tracks, each with or without the read codes of its
          blocks: files of 174,848, 175,531, 196,608 or 197,376 bytes
-Out:     a line an image, then a line for each fault, each block with a read
+Out:     a line per image, then a line for each fault, each block with a read
          error and each file that isn't whole; with --format json an object a
          line, with --format csv a row an image
 Exit:    0 nothing is amiss; 1 an image has a fault, a read error or a file that
@@ -158,15 +158,15 @@ Example: d64sh check *.d64
 No image is ever written. The manual says more: `man d64sh`, or docs/MANUAL.md
 beside the source.";
 
-const FILES_USAGE: &str = "d64sh files [--deleted] [--format FORMAT] FILE..
+const FILES_USAGE: &str = "d64sh files [--deleted] [--orphans] [--format FORMAT] FILE..
        d64sh files [..] --files-from LIST [--null]";
 
 const FILES_DETAILS: &str =
     "In:      images of 35 or 40 tracks, each with or without the read codes of its
          blocks: files of 174,848, 175,531, 196,608 or 197,376 bytes
-Out:     a line a file: its image, size, kind and name, and that it is whole or
-         what is amiss; with --format json an object a line, with --format csv a
-         row a file, both with the SHA-256 digest of what it holds
+Out:     a line per file: its image, size, kind and name, and that it is whole
+         or what is amiss; with --format json an object per line, with --format
+         csv a row per file, both with the SHA-256 digest of what it holds
 Exit:    0 nothing is amiss; 1 a file isn't whole, or a directory is broken or
          has a read error; 2 an argument is wrong, a file is no image, or
          reading or writing failed
@@ -175,8 +175,8 @@ Example: d64sh files --format csv *.d64 >files.csv
 No image is ever written. The manual says more: `man d64sh`, or docs/MANUAL.md
 beside the source.";
 
-const EXTRACT_USAGE: &str = "d64sh extract [--into FOLDER] [--part] [--deleted] [--skip-existing]
-                     [--format FORMAT] FILE..
+const EXTRACT_USAGE: &str = "d64sh extract [--into FOLDER] [--part] [--deleted] [--orphans]
+                     [--skip-existing] [--format FORMAT] FILE..
        d64sh extract [..] --files-from LIST [--null]";
 
 const EXTRACT_DETAILS: &str =
@@ -198,7 +198,7 @@ const MAP_USAGE: &str = "d64sh map [--format FORMAT] FILE";
 const MAP_DETAILS: &str =
     "In:      an image of 35 or 40 tracks, with or without the read codes of its
          blocks: a file of 174,848, 175,531, 196,608 or 197,376 bytes
-Out:     a line a track with a character a sector, and what each character
+Out:     a line per track with a character per sector, and what each character
          means; with --format svg a picture, with a colour for each file
 Exit:    0 nothing is amiss; 1 the image has a fault, a read error or a file
          that isn't whole; 2 an argument is wrong, the file is no image, or

@@ -14,6 +14,7 @@ mod tips;
 mod values;
 
 pub use asked::{
-    DiffForm, Extraction, Format, Job, JobFault, Merging, Names, Page, PictureForm, Separator,
+    DiffForm, Extraction, Format, Job, JobFault, Leftovers, Merging, Names, Page, PictureForm,
+    Separator,
 };
 pub use reading::job;

@@ -61,6 +61,7 @@ fn leftovers(arguments: &ArgMatches) -> Leftovers
 {
     Leftovers {
         deleted: has_flag(arguments, "deleted"),
+        orphans: has_flag(arguments, "orphans"),
     }
 }
 

@@ -35,14 +35,15 @@ check|--null|--files-from|l => Check { digest: false, format: Text, names: Liste
 check|a|--format|text => Check { digest: false, format: Text, names: Given([\"a\"]) }
 check|a|--digest|--format=json|b => Check { digest: true, format: Json, names: Given([\"a\", \"b\"]) }
 check|--format|csv|--files-from|l|--digest => Check { digest: true, format: Csv, names: Listed { list: \"l\", separator: LineFeed } }
-files|a|check => Files { leftovers: Leftovers { deleted: false }, format: Text, names: Given([\"a\", \"check\"]) }
-files|--deleted|a => Files { leftovers: Leftovers { deleted: true }, format: Text, names: Given([\"a\"]) }
-files|--format=json|--files-from=l => Files { leftovers: Leftovers { deleted: false }, format: Json, names: Listed { list: \"l\", separator: LineFeed } }
-files|--files-from|-|--null|--format|csv => Files { leftovers: Leftovers { deleted: false }, format: Csv, names: Listed { list: \"-\", separator: Nul } }
-extract|a|b => Extract { extraction: Extraction { into: \".\", part: false, skip_existing: false }, leftovers: Leftovers { deleted: false }, format: Text, names: Given([\"a\", \"b\"]) }
-extract|--into|out|--part|--format=json|a => Extract { extraction: Extraction { into: \"out\", part: true, skip_existing: false }, leftovers: Leftovers { deleted: false }, format: Json, names: Given([\"a\"]) }
-extract|--skip-existing|--into=--part|--files-from|-|--null|--format|csv => Extract { extraction: Extraction { into: \"--part\", part: false, skip_existing: true }, leftovers: Leftovers { deleted: false }, format: Csv, names: Listed { list: \"-\", separator: Nul } }
-extract|--part|--deleted|a => Extract { extraction: Extraction { into: \".\", part: true, skip_existing: false }, leftovers: Leftovers { deleted: true }, format: Text, names: Given([\"a\"]) }
+files|a|check => Files { leftovers: Leftovers { deleted: false, orphans: false }, format: Text, names: Given([\"a\", \"check\"]) }
+files|--deleted|a => Files { leftovers: Leftovers { deleted: true, orphans: false }, format: Text, names: Given([\"a\"]) }
+files|--orphans|a => Files { leftovers: Leftovers { deleted: false, orphans: true }, format: Text, names: Given([\"a\"]) }
+files|--format=json|--files-from=l => Files { leftovers: Leftovers { deleted: false, orphans: false }, format: Json, names: Listed { list: \"l\", separator: LineFeed } }
+files|--files-from|-|--null|--format|csv => Files { leftovers: Leftovers { deleted: false, orphans: false }, format: Csv, names: Listed { list: \"-\", separator: Nul } }
+extract|a|b => Extract { extraction: Extraction { into: \".\", part: false, skip_existing: false }, leftovers: Leftovers { deleted: false, orphans: false }, format: Text, names: Given([\"a\", \"b\"]) }
+extract|--into|out|--part|--format=json|a => Extract { extraction: Extraction { into: \"out\", part: true, skip_existing: false }, leftovers: Leftovers { deleted: false, orphans: false }, format: Json, names: Given([\"a\"]) }
+extract|--skip-existing|--into=--part|--files-from|-|--null|--format|csv => Extract { extraction: Extraction { into: \"--part\", part: false, skip_existing: true }, leftovers: Leftovers { deleted: false, orphans: false }, format: Csv, names: Listed { list: \"-\", separator: Nul } }
+extract|--part|--deleted|a => Extract { extraction: Extraction { into: \".\", part: true, skip_existing: false }, leftovers: Leftovers { deleted: true, orphans: false }, format: Text, names: Given([\"a\"]) }
 map|my disk => Map { format: Text, file: \"my disk\" }
 map|--format|text|my disk => Map { format: Text, file: \"my disk\" }
 map|--format=svg|--|--format => Map { format: Svg, file: \"--format\" }
@@ -169,11 +170,11 @@ crunch|a|b => Usage: d64sh crunch [--start HEX] [-o FILE] [FILE]
 crunch|--start=1|--start=2 => Usage: d64sh crunch [--start HEX] [-o FILE] [FILE]
 check|-a => Usage: d64sh check [--digest] [--format FORMAT] FILE..
 check|a|--format=csv|--format=csv => Usage: d64sh check [--digest] [--format FORMAT] FILE..
-files|a|--digest => Usage: d64sh files [--deleted] [--format FORMAT] FILE..
-extract|a|--digest => Usage: d64sh extract [--into FOLDER] [--part] [--deleted] [--skip-existing]
+files|a|--digest => Usage: d64sh files [--deleted] [--orphans] [--format FORMAT] FILE..
+extract|a|--digest => Usage: d64sh extract [--into FOLDER] [--part] [--deleted] [--orphans]
 catalogue|a|--format|text => Usage: d64sh catalogue [--maps] [--title TEXT] [--links FOLDER] FILE..
 catalogue|--title|a|--title|b => Usage: d64sh catalogue [--maps] [--title TEXT] [--links FOLDER] FILE..
-extract|--links|l|a => Usage: d64sh extract [--into FOLDER] [--part] [--deleted] [--skip-existing]
+extract|--links|l|a => Usage: d64sh extract [--into FOLDER] [--part] [--deleted] [--orphans]
 map|--format|json => Usage: d64sh map [--format FORMAT] FILE
 map|a|b => Usage: d64sh map [--format FORMAT] FILE
 map =>   <FILE>

@@ -1,0 +1,85 @@
+//! An orphan as fields of a row of CSV.
+ghost use Rattle.std.specs.Prelude.{◌≡◌, [], ◌++◌, OnOk};
+ghost use Rattle.csv.specs.Records.{fields_of, partial_of};
+ghost use Rattle.cmd_files.specs.OrphanRow.{old_name_fields, old_type_fields, orphan_entry_fields, orphan_state_fields, orphan_fields};
+
+use crate::csv_line::{push_content, push_count, push_names, push_type, push_ways};
+use csv::ByteRecord;
+use d64_leftovers::{OldSlot, OrphanRow};
+use out_json_csv::{push_field, push_fields, push_number, push_pair};
+use std::alloc::AllocError;
+
+/// Adds the name, and the field that it stands in, to a row; nothing if no old slot tells them.
+fn push_old_names(
+    scratch: &mut Vec<u8>,
+    line: &mut ByteRecord,
+    old: Option<OldSlot>,
+) -> Result<(), AllocError>
+    requires { partial_of line.old ≡ [] }
+    ensures fields { OnOk result (fields_of line.new ≡ fields_of line.old ++ old_name_fields old) }
+    ensures whole { OnOk result (partial_of line.new ≡ []) }
+{
+    match old {
+        Some(old) => push_names(scratch, line, &old.field),
+        None => push_fields(line, &[b"", b""]),
+    }
+}
+
+/// Adds the kind, and the type byte with what it says, to a row; nothing if no old slot tells them.
+fn push_old_type(line: &mut ByteRecord, old: Option<OldSlot>) -> Result<(), AllocError>
+    requires { partial_of line.old ≡ [] }
+    ensures fields { OnOk result (fields_of line.new ≡ fields_of line.old ++ old_type_fields old) }
+    ensures whole { OnOk result (partial_of line.new ≡ []) }
+{
+    match old {
+        Some(old) => push_type(line, Some(old.kind), old.type_byte, old.closed, old.locked),
+        None => push_fields(line, &[b"", b"", b"", b""]),
+    }
+}
+
+/// Adds the shown size, if an old slot has one, the first block, and no length of a record, to a
+/// row.
+fn push_orphan_entry(line: &mut ByteRecord, row: &OrphanRow) -> Result<(), AllocError>
+    requires { partial_of line.old ≡ [] }
+    ensures fields { OnOk result (fields_of line.new ≡ fields_of line.old ++ orphan_entry_fields row.now) }
+    ensures whole { OnOk result (partial_of line.new ≡ []) }
+{
+    let size = match row.old {
+        Some(old) => Some(usize::from(old.size)),
+        None => None,
+    };
+    push_count(line, size)?;
+    push_pair(line, row.first.track(), row.first.sector())?;
+    push_field(line, b"")
+}
+
+/// Adds that it isn't known whether an orphan is whole, and how many of its blocks have a read
+/// error, to a row.
+fn push_orphan_state(line: &mut ByteRecord, row: &OrphanRow) -> Result<(), AllocError>
+    requires { partial_of line.old ≡ [] }
+    ensures fields { OnOk result (fields_of line.new ≡ fields_of line.old ++ orphan_state_fields row.now) }
+    ensures whole { OnOk result (partial_of line.new ≡ []) }
+{
+    push_field(line, b"")?;
+    push_field(line, b"")?;
+    push_field(line, b"")?;
+    push_number(line, row.read_errors as u64)
+}
+
+/// Adds what is told of an orphan, but for the image and the slot, to a row.
+pub(crate) fn push_orphan_fields(
+    scratch: &mut Vec<u8>,
+    line: &mut ByteRecord,
+    row: &OrphanRow,
+) -> Result<(), AllocError>
+    requires { partial_of line.old ≡ [] }
+    ensures fields { OnOk result (fields_of line.new ≡ fields_of line.old ++ orphan_fields row.now) }
+    ensures whole { OnOk result (partial_of line.new ≡ []) }
+{
+    push_old_names(scratch, line, row.old)?;
+    push_old_type(line, row.old)?;
+    push_orphan_entry(line, row)?;
+    push_ways(line, Some(row.blocks), None)?;
+    push_content(scratch, line, row.content)?;
+    push_orphan_state(line, row)
+}
