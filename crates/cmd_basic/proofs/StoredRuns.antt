@@ -18,10 +18,10 @@ use Rattle.cmd_basic.specs.declared.tools.ToolFault.{ToolFault}
 use Rattle.cmd_basic.specs.declared.tools.ToolFault.TheVariants.{Read, Write, Memory, Text, NotBasic}
 
 -- a tool has not had its input, and stored nothing
-pub ended_without_input : (tool : Tool) (name : Option (List ℕ)) (target : List ℕ) (old new : Outside) (faults told : Account) (status : ℕ) (fault : ToolFault) (answer : Result (Unit {0}) ToolFault)
+pub ended_without_input : (tool : Tool) (name : Option (List ℕ)) (target : List ℕ) (old new : Outside) (faults reported : Account) (status : ℕ) (fault : ToolFault) (answer : Result (Unit {0}) ToolFault)
     → answer ≡ Err fault → TakesInput name old new (Err fault) → new.output ≡ old.output → (name ≡ None → fault ≡ Read → IsUnreadable new.reading)
-    → ReportsStored tool name [] target new.host.files answer faults told status → EndedToolTo tool name target old new faults told status
-ended_without_input tool name target old new faults told status fault answer is takes output due reports = (
+    → ReportsStored tool name [] target new.host.files answer faults reported status → EndedToolTo tool name target old new faults reported status
+ended_without_input tool name target old new faults reported status fault answer is takes output due reports = (
   Err fault,
   answer,
   record { middle = new; takes = takes; stores = (is, refl); reader = refl; output = output },
@@ -33,11 +33,11 @@ ended_without_input tool name target old new faults told status fault answer is 
     same_fault answer a b is other = cc
 
 -- it has had its input, and stored what it made of it, or not
-pub ended_with_input : (tool : Tool) (name : Option (List ℕ)) (target : List ℕ) (old middle new : Outside) (faults told : Account) (status : ℕ) (bytes : List ℕ) (answer : Result (Unit {0}) ToolFault)
+pub ended_with_input : (tool : Tool) (name : Option (List ℕ)) (target : List ℕ) (old middle new : Outside) (faults reported : Account) (status : ℕ) (bytes : List ℕ) (answer : Result (Unit {0}) ToolFault)
     → TakesInput name old middle (Ok bytes) → HasStored tool bytes target middle.host new.host answer → (answer ≡ Err Read → ⊥)
-    → new.reader ≡ middle.reader → new.output ≡ old.output → ReportsStored tool name bytes target new.host.files answer faults told status
-    → EndedToolTo tool name target old new faults told status
-ended_with_input tool name target old middle new faults told status bytes answer takes stored unread reader output reports = (
+    → new.reader ≡ middle.reader → new.output ≡ old.output → ReportsStored tool name bytes target new.host.files answer faults reported status
+    → EndedToolTo tool name target old new faults reported status
+ended_with_input tool name target old middle new faults reported status bytes answer takes stored unread reader output reports = (
   Ok bytes,
   answer,
   record { middle = middle; takes = takes; stores = stored; reader = reader; output = output },

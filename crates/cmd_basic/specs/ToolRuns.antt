@@ -51,14 +51,14 @@ RanToolOn tool (Some name) old new answer = (new.reader ≡ old.reader)
 -- how a tool's result is reported: status 0 and no line if it wrote its output; 1 and a status
 -- line, whole unless writing it failed, if it refused its input; and otherwise 2 and the line of a
 -- fault
-abbrev pub TellsAnswer : {A : Type 0} → Result A ToolFault → Account → Account → ℕ → Type 0
-TellsAnswer (Ok done) faults told status = (status ≡ 0) × (told ≡ faults)
-TellsAnswer (Err (tool_faults.Text fault)) faults told status =
-    (status ≡ 1) × Writes faults told (status_line (status_of_basic fault))
-TellsAnswer (Err (tool_faults.NotBasic fault)) faults told status = (status ≡ 1) × Writes faults told (status_line (status_of_listing fault))
-TellsAnswer (Err tool_faults.Read) faults told status = Reports Read faults told status
-TellsAnswer (Err tool_faults.Write) faults told status = Reports Write faults told status
-TellsAnswer (Err (tool_faults.Memory error)) faults told status = Reports Memory faults told status
+abbrev pub ReportsResult : {A : Type 0} → Result A ToolFault → Account → Account → ℕ → Type 0
+ReportsResult (Ok done) faults reported status = (status ≡ 0) × (reported ≡ faults)
+ReportsResult (Err (tool_faults.Text fault)) faults reported status =
+    (status ≡ 1) × Writes faults reported (status_line (status_of_basic fault))
+ReportsResult (Err (tool_faults.NotBasic fault)) faults reported status = (status ≡ 1) × Writes faults reported (status_line (status_of_listing fault))
+ReportsResult (Err tool_faults.Read) faults reported status = Reports Read faults reported status
+ReportsResult (Err tool_faults.Write) faults reported status = Reports Write faults reported status
+ReportsResult (Err (tool_faults.Memory error)) faults reported status = Reports Memory faults reported status
 
 -- a tool has taken its input, of the standard input or of the host file with this name; or it could
 -- not, by this fault
@@ -91,46 +91,46 @@ pub record RanToolTo (tool : Tool) (name : Option (List ℕ)) (target : List ℕ
 -- the faulty lines of a text whose program is loaded at an address are reported, with status 1; or
 -- memory ran out
 abbrev pub ReportsText : Option (List ℕ) → ℕ → List ℕ → Account → Account → ℕ → Type 0
-ReportsText name start text faults told status =
-    ((status ≡ 1) × (lines : List FaultyLine) × AreFaultyIn start text lines × Writes faults told (refused_text name lines)) ⊎ Reports Memory faults told status
+ReportsText name start text faults reported status =
+    ((status ≡ 1) × (lines : List FaultyLine) × AreFaultyIn start text lines × Writes faults reported (refused_text name lines)) ⊎ Reports Memory faults reported status
 
 -- why an input is no program is reported, with status 1; or memory ran out
 abbrev pub ReportsProgram : Option (List ℕ) → ListFault → Account → Account → ℕ → Type 0
-ReportsProgram name fault faults told status =
-    ((status ≡ 1) × Writes faults told (refusal_line name None (status_of_listing fault) (list_fault_text fault))) ⊎ Reports Memory faults told status
+ReportsProgram name fault faults reported status =
+    ((status ≡ 1) × Writes faults reported (refusal_line name None (status_of_listing fault) (list_fault_text fault))) ⊎ Reports Memory faults reported status
 
 -- a result that cannot be stored on a host with these files is reported with the reason, as far as
 -- the host can say, and with status 2; or memory ran out
 abbrev pub ReportsUnwritten : List ℕ → Option Files → Account → Account → ℕ → Type 0
-ReportsUnwritten target all faults told status =
-    ((status ≡ 2) × (reason : Option Reason) × IsWriteReason all reason × Writes faults told (with_known_reason reason (unwritten_line target)))
-    ⊎ Reports Memory faults told status
+ReportsUnwritten target all faults reported status =
+    ((status ≡ 2) × (reason : Option Reason) × IsWriteReason all reason × Writes faults reported (with_known_reason reason (unwritten_line target)))
+    ⊎ Reports Memory faults reported status
 
 -- how a tool is reported that had these bytes and stores its result, on a host with these files
 -- then
 abbrev pub ReportsStored : {A : Type 0} → Tool → Option (List ℕ) → List ℕ → List ℕ → Option Files → Result A ToolFault → Account → Account → ℕ → Type 0
-ReportsStored tool name bytes target all (Ok done) faults told status = (status ≡ 0) × (told ≡ faults)
-ReportsStored tool name bytes target all (Err (tool_faults.Text fault)) faults told status = ReportsText name (start_of tool) bytes faults told status
-ReportsStored tool name bytes target all (Err (tool_faults.NotBasic fault)) faults told status = ReportsProgram name fault faults told status
-ReportsStored tool name bytes target all (Err tool_faults.Read) faults told status = Reports Read faults told status
-ReportsStored tool name bytes target all (Err tool_faults.Write) faults told status = ReportsUnwritten target all faults told status
-ReportsStored tool name bytes target all (Err (tool_faults.Memory error)) faults told status = Reports Memory faults told status
+ReportsStored tool name bytes target all (Ok done) faults reported status = (status ≡ 0) × (reported ≡ faults)
+ReportsStored tool name bytes target all (Err (tool_faults.Text fault)) faults reported status = ReportsText name (start_of tool) bytes faults reported status
+ReportsStored tool name bytes target all (Err (tool_faults.NotBasic fault)) faults reported status = ReportsProgram name fault faults reported status
+ReportsStored tool name bytes target all (Err tool_faults.Read) faults reported status = Reports Read faults reported status
+ReportsStored tool name bytes target all (Err tool_faults.Write) faults reported status = ReportsUnwritten target all faults reported status
+ReportsStored tool name bytes target all (Err (tool_faults.Memory error)) faults reported status = Reports Memory faults reported status
 
 -- how a tool ended that stores its result; it reports a fault of reading its input only if that
 -- cannot be read to its end
 abbrev pub EndedToolTo : Tool → Option (List ℕ) → List ℕ → Outside → Outside → Account → Account → ℕ → Type 0
-EndedToolTo tool name target old new faults told status =
+EndedToolTo tool name target old new faults reported status =
     (taken : Result (List ℕ) ToolFault) × (answer : Result (Unit {0}) ToolFault) × RanToolTo tool name target taken old new answer
-    × (name ≡ None → answer ≡ Err tool_faults.Read → IsUnreadable new.reading) × ReportsStored tool name (bytes_of taken) target new.host.files answer faults told status
+    × (name ≡ None → answer ≡ Err tool_faults.Read → IsUnreadable new.reading) × ReportsStored tool name (bytes_of taken) target new.host.files answer faults reported status
 
 -- how a tool ended that prints its result; it reports a fault of reading its input, or of writing,
 -- only if the input cannot be read to its end, or a write or a flush has failed
 abbrev pub EndedTool : Tool → Option (List ℕ) → Outside → Outside → Account → Account → ℕ → Type 0
-EndedTool tool name old new faults told status =
+EndedTool tool name old new faults reported status =
     (answer : Result (Unit {0}) ToolFault) × RanToolOn tool name old new answer
-    × (name ≡ None → ReadsWith answer new.reading) × WritesWith answer old.output.has_failed new.output.has_failed × TellsAnswer answer faults told status
+    × (name ≡ None → ReadsWith answer new.reading) × WritesWith answer old.output.has_failed new.output.has_failed × ReportsResult answer faults reported status
 
 -- how a tool ended whose result goes to the output, or to the host file with this name
 abbrev pub EndedConversion : Tool → Option (List ℕ) → Option (List ℕ) → Outside → Outside → Account → Account → ℕ → Type 0
-EndedConversion tool name None old new faults told status = EndedTool tool name old new faults told status
-EndedConversion tool name (Some target) old new faults told status = EndedToolTo tool name target old new faults told status
+EndedConversion tool name None old new faults reported status = EndedTool tool name old new faults reported status
+EndedConversion tool name (Some target) old new faults reported status = EndedToolTo tool name target old new faults reported status

@@ -104,12 +104,12 @@ RanTool {A} tool reader left old new (Err (Text fault)) = RanWholly {A = A} tool
 RanTool {A} tool reader left old new (Err (NotBasic fault)) = RanWholly {A = A} tool reader left old new (Err (NotBasic fault))
 
 -- the line number in a fault of a text has 32 bits
-abbrev pub TellsSmallLine : ToolFault → Type 0
-TellsSmallLine (Text fault) = IfSome (fault_line fault) (λ line. line < 2 ^ 32)
-TellsSmallLine (NotBasic fault) = ⊤
-TellsSmallLine (Memory error) = ⊤
-TellsSmallLine Read = ⊤
-TellsSmallLine Write = ⊤
+abbrev pub HasSmallLine : ToolFault → Type 0
+HasSmallLine (Text fault) = IfSome (fault_line fault) (λ line. line < 2 ^ 32)
+HasSmallLine (NotBasic fault) = ⊤
+HasSmallLine (Memory error) = ⊤
+HasSmallLine Read = ⊤
+HasSmallLine Write = ⊤
 
 -- a tool returns a fault of writing if and only if its output has failed
 abbrev pub WritesWith : {A : Type 0} → Result A ToolFault → Bool → Bool → Type 0

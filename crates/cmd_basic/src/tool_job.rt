@@ -4,9 +4,9 @@ ghost use Rattle.script_text.specs.Input.{IsUnread, reading_of};
 ghost use Rattle.script_text.specs.Output.{Writes};
 ghost use Rattle.program_batch.specs.Runs.{account_at};
 ghost use Rattle.script_text.specs.Status.{status_line};
-ghost use Rattle.cmd_basic.specs.ToolRuns.{EndedConversion, RanToolOn, TellsAnswer};
+ghost use Rattle.cmd_basic.specs.ToolRuns.{EndedConversion, RanToolOn, ReportsResult};
 ghost use Rattle.program_exit.specs.Outside.{outside_at};
-ghost use Rattle.cmd_basic.specs.Tools.{ReadsWith, TellsSmallLine, WritesWith};
+ghost use Rattle.cmd_basic.specs.Tools.{ReadsWith, HasSmallLine, WritesWith};
 
 use crate::stored_tool::StoredTool;
 use crate::tools::{Tool, ToolFault};
@@ -55,7 +55,7 @@ impl<'n> ToolJob<'n> {
     {
         let Some(target) = self.target else {
             let answer = run_tool(alloc, self.tool, self.file, input, output, host);
-            return tell_answer(answer, faults);
+            return report_result(answer, faults);
         };
         let job = StoredTool {
             tool: self.tool,
@@ -82,7 +82,7 @@ fn run_tool<R: Read, W: Write, H: Host>(
     ensures ran { RanToolOn tool (option_copied name.entry)
         (outside_at R.remaining input.old W.contents output.old H.state host.old)
         (outside_at R.remaining input.new W.contents output.new H.state host.new) result }
-    ensures line { IfErr result TellsSmallLine }
+    ensures line { IfErr result HasSmallLine }
     ensures reads { option_copied name.entry ≡ None → ReadsWith result (reading_of input.new.reads input.new.came input.new.has_failed) }
     ensures writes { WritesWith result output.old.has_failed output.new.has_failed }
     ensures delivered { OnOk result (output.new.is_delivered ≡ true) }
@@ -109,7 +109,7 @@ fn write_result<R: Read, W: Write, H: Host>(
     ensures ran { RanToolOn tool (option_copied name.entry)
         (outside_at R.remaining input.old W.contents output.old H.state host.old)
         (outside_at R.remaining input.new W.contents output.new H.state host.new) result }
-    ensures line { IfErr result TellsSmallLine }
+    ensures line { IfErr result HasSmallLine }
     ensures reads { option_copied name.entry ≡ None → ReadsWith result (reading_of input.new.reads input.new.came input.new.has_failed) }
     ensures writes { WritesWith result output.old.has_failed output.new.has_failed }
 {
@@ -124,17 +124,17 @@ fn write_result<R: Read, W: Write, H: Host>(
 }
 
 /// Reports a tool's result, and returns the exit status.
-fn tell_answer<F: Write>(answer: Result<(), ToolFault>, faults: &mut OutputStream<'_, F>) -> u8
-    requires { IfErr answer TellsSmallLine }
+fn report_result<F: Write>(answer: Result<(), ToolFault>, faults: &mut OutputStream<'_, F>) -> u8
+    requires { IfErr answer HasSmallLine }
     ensures faults { faults.new.writer.ghost_name ≡ faults.old.writer.ghost_name }
     ensures wrote { result ≡ 0 → IsOk answer }
-    ensures told { TellsAnswer answer (account_at F.contents faults.old) (account_at F.contents faults.new) result }
+    ensures reported { ReportsResult answer (account_at F.contents faults.old) (account_at F.contents faults.new) result }
     ensures silent { result ≡ 0 → faults.new ≡ faults.old }
 {
     match answer {
         Ok(()) => ALL_ACCEPTED,
-        Err(ToolFault::Text(fault)) => tell_refusal(of_basic_fault(fault), faults),
-        Err(ToolFault::NotBasic(fault)) => tell_refusal(of_list_fault(fault), faults),
+        Err(ToolFault::Text(fault)) => report_refusal(of_basic_fault(fault), faults),
+        Err(ToolFault::NotBasic(fault)) => report_refusal(of_list_fault(fault), faults),
         Err(ToolFault::Read) => ProgramFault::Read.report_on(faults),
         Err(ToolFault::Write) => ProgramFault::Write.report_on(faults),
         Err(ToolFault::Memory(_)) => ProgramFault::Memory.report_on(faults),
@@ -143,10 +143,10 @@ fn tell_answer<F: Write>(answer: Result<(), ToolFault>, faults: &mut OutputStrea
 
 /// Writes the status line of a refusal, and returns the exit status. If a write fails, the rest of
 /// the line is dropped.
-fn tell_refusal<F: Write>(status: Status, faults: &mut OutputStream<'_, F>) -> u8
+fn report_refusal<F: Write>(status: Status, faults: &mut OutputStream<'_, F>) -> u8
     ensures faults { faults.new.writer.ghost_name ≡ faults.old.writer.ghost_name }
     ensures status { result ≡ 1 }
-    ensures told { Writes (account_at F.contents faults.old) (account_at F.contents faults.new) (status_line status) }
+    ensures reported { Writes (account_at F.contents faults.old) (account_at F.contents faults.new) (status_line status) }
 {
     let _ = faults.write(status.line().as_slice());
     SOME_REFUSED

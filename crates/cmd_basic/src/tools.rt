@@ -5,7 +5,7 @@ ghost use Rattle.std.specs.Prelude.{◌≡◌, ◌≤◌, false, length, IfOk, I
 ghost use Rattle.script_text.specs.Input.{IsUnread, IsUnreadable, reading_of};
 ghost use Rattle.script_text.specs.Script.{script_limit};
 ghost use Rattle.cmd_basic.specs.declared.tools.ToolFault.TheVariants.{Read};
-ghost use Rattle.cmd_basic.specs.Tools.{Makes, Refuses, HasRead, ReadsNot, HasWritten, ReadsWith, RanTool, TellsSmallLine, WritesWith, start_of};
+ghost use Rattle.cmd_basic.specs.Tools.{Makes, Refuses, HasRead, ReadsNot, HasWritten, ReadsWith, RanTool, HasSmallLine, WritesWith, start_of};
 
 use cbm_text::{BasicFault, ListFault, crunch, list};
 use script_text::input::InputStream;
@@ -84,7 +84,7 @@ impl Tool {
         ensures input { input.new.reader.ghost_name ≡ input.old.reader.ghost_name }
         ensures output { output.new.writer.ghost_name ≡ output.old.writer.ghost_name }
         ensures ran { RanTool self (R.remaining input.old.reader.now) (R.remaining input.new.reader.now) (W.contents output.old.writer.now) (W.contents output.new.writer.now) result }
-        ensures line { IfErr result TellsSmallLine }
+        ensures line { IfErr result HasSmallLine }
         ensures reads { ReadsWith result (reading_of input.new.reads input.new.came input.new.has_failed) }
         ensures writes { WritesWith result output.old.has_failed output.new.has_failed }
     {
@@ -102,7 +102,7 @@ impl Tool {
         requires { length input.now ≤ script_limit }
         ensures output { output.new.writer.ghost_name ≡ output.old.writer.ghost_name }
         ensures written { HasWritten self input.now (W.contents output.old.writer.now) (W.contents output.new.writer.now) result }
-        ensures line { IfErr result TellsSmallLine }
+        ensures line { IfErr result HasSmallLine }
         ensures writes { WritesWith result output.old.has_failed output.new.has_failed }
     {
         let made = self.output(alloc, input)?;

@@ -5,7 +5,7 @@ use Rattle.d64_survey.specs.Dump.{DumpView}
 use Rattle.program_batch.specs.Answers.{Answer}
 use Rattle.program_batch.specs.declared.report.Verdict.{Verdict}
 use Rattle.d64_g64.specs.DumpOf.{dump_of}
-use Rattle.program_arguments.specs.declared.asked.Page.{Page}
+use Rattle.program_arguments.specs.declared.jobs.Page.{Page}
 use Rattle.cmd_catalogue.specs.Catalogue.{answer_of, catalogue_rule}
 
 -- the result for a dump is the result for its bytes

@@ -7,7 +7,7 @@ use Rattle.out_messages.specs.FaultLines.{unread_line, no_dump_text, wrong_lengt
 use Rattle.d64_g64.specs.DumpOf.{dump_of}
 use Rattle.program_batch.specs.Answers.{Answer, Rule}
 use Rattle.program_batch.specs.declared.report.Verdict.TheVariants.{Clean, Amiss, Failed}
-use Rattle.program_arguments.specs.declared.asked.Page.{Page}
+use Rattle.program_arguments.specs.declared.jobs.Page.{Page}
 use Rattle.cmd_catalogue.specs.Head.{page_head}
 use Rattle.cmd_catalogue.specs.Links.{folder_of}
 use Rattle.cmd_catalogue.specs.Sections.{section, unanswered_section}

@@ -12,7 +12,7 @@ use d64_inventory::is_amiss;
 use d64_survey::{Dump, DumpFault, Fault, Inspection, ReadError};
 use out_messages::{push_no_dump, unread_line, wrong_length_line};
 use program_arguments::Page;
-use program_batch::{AnswerRoom, Report, Verdict};
+use program_batch::{Report, ReportBuffer, Verdict};
 use std::alloc::{AllocError, Global};
 
 /// The report of `catalogue`, with the buffers that it uses for one file after another.
@@ -44,16 +44,16 @@ impl CatalogueReport {
     }
 
     /// Puts the section of the dump that was read into the buffer, and returns the verdict.
-    fn tell_dump(&mut self, name: &[u8], room: &mut AnswerRoom) -> Result<Verdict, AllocError>
+    fn report_dump(&mut self, name: &[u8], buffer: &mut ReportBuffer) -> Result<Verdict, AllocError>
         ensures page { self.new.page ≡ self.old.page }
-        ensures answered { room.old.printed.items ≡ [] → room.old.complaint.items ≡ [] → (bytes : List ℕ) → IfOk result (λ verdict.
-            record { printed = room.new.printed.items; complaint = room.new.complaint.items; verdict = verdict }
+        ensures answered { buffer.old.printed.items ≡ [] → buffer.old.complaint.items ≡ [] → (bytes : List ℕ) → IfOk result (λ verdict.
+            record { printed = buffer.new.printed.items; complaint = buffer.new.complaint.items; verdict = verdict }
             ≡ answer_of self.old.page name.now bytes (Some self.old.dump)) }
     {
         let all = Inspection::of(&self.dump, &mut self.faults, &mut self.errors)?;
         let folder = folder_of(self.alloc, self.page.links.as_deref(), name)?;
         push_section(
-            &mut room.printed,
+            &mut buffer.printed,
             self.page.maps,
             name,
             &all,
@@ -69,33 +69,37 @@ impl CatalogueReport {
     }
 
     /// Puts the section of a file that cannot be read into the buffer.
-    fn tell_unread(&mut self, name: &[u8], room: &mut AnswerRoom) -> Result<Verdict, AllocError>
+    fn report_unread(
+        &mut self,
+        name: &[u8],
+        buffer: &mut ReportBuffer,
+    ) -> Result<Verdict, AllocError>
         ensures page { self.new.page ≡ self.old.page }
-        ensures answered { room.old.printed.items ≡ [] → room.old.complaint.items ≡ [] → IfOk result (λ verdict.
-            record { printed = room.new.printed.items; complaint = room.new.complaint.items; verdict = verdict }
+        ensures answered { buffer.old.printed.items ≡ [] → buffer.old.complaint.items ≡ [] → IfOk result (λ verdict.
+            record { printed = buffer.new.printed.items; complaint = buffer.new.complaint.items; verdict = verdict }
             ≡ catalogue_rule self.old.page name.now None) }
     {
-        push_unanswered(&mut room.printed, name, b"cannot be read")?;
-        unread_line(&mut room.complaint, name)?;
+        push_unanswered(&mut buffer.printed, name, b"cannot be read")?;
+        unread_line(&mut buffer.complaint, name)?;
         Ok(Verdict::Failed)
     }
 
     /// Puts the section of a file whose length is not a dump's into the buffer.
-    fn tell_wrong_length(
+    fn report_wrong_length(
         &mut self,
         name: &[u8],
         bytes: &[u8],
-        room: &mut AnswerRoom,
+        buffer: &mut ReportBuffer,
     ) -> Result<Verdict, AllocError>
         ensures page { self.new.page ≡ self.old.page }
-        ensures answered { room.old.printed.items ≡ [] → room.old.complaint.items ≡ [] → IfOk result (λ verdict.
-            record { printed = room.new.printed.items; complaint = room.new.complaint.items; verdict = verdict }
+        ensures answered { buffer.old.printed.items ≡ [] → buffer.old.complaint.items ≡ [] → IfOk result (λ verdict.
+            record { printed = buffer.new.printed.items; complaint = buffer.new.complaint.items; verdict = verdict }
             ≡ answer_of self.old.page name.now bytes.now None) }
     {
         self.text.clear();
         push_no_dump(&mut self.text, bytes)?;
-        push_unanswered(&mut room.printed, name, self.text.as_slice())?;
-        wrong_length_line(&mut room.complaint, name, bytes)?;
+        push_unanswered(&mut buffer.printed, name, self.text.as_slice())?;
+        wrong_length_line(&mut buffer.complaint, name, bytes)?;
         Ok(Verdict::Failed)
     }
 }
@@ -107,10 +111,10 @@ impl Report for CatalogueReport {
 
     ghost quiet = { λ report. catalogue_rule-is_quiet report.page };
 
-    fn head(&mut self, room: &mut AnswerRoom) -> Result<(), AllocError> {
-        room.clear();
+    fn head(&mut self, buffer: &mut ReportBuffer) -> Result<(), AllocError> {
+        buffer.clear();
         push_head(
-            &mut room.printed,
+            &mut buffer.printed,
             self.page.title.as_deref(),
             &mut self.text,
         )
@@ -120,15 +124,15 @@ impl Report for CatalogueReport {
         &mut self,
         name: &[u8],
         bytes: Option<&[u8]>,
-        room: &mut AnswerRoom,
+        buffer: &mut ReportBuffer,
     ) -> Result<Verdict, AllocError> {
-        room.clear();
+        buffer.clear();
         let Some(bytes) = bytes else {
-            return self.tell_unread(name, room);
+            return self.report_unread(name, buffer);
         };
         match refill_from(&mut self.dump, self.alloc, bytes) {
-            Ok(()) => self.tell_dump(name, room),
-            Err(DumpFault::WrongLength(_)) => self.tell_wrong_length(name, bytes, room),
+            Ok(()) => self.report_dump(name, buffer),
+            Err(DumpFault::WrongLength(_)) => self.report_wrong_length(name, bytes, buffer),
             Err(DumpFault::Memory(error)) => Err(error),
         }
     }

@@ -2,7 +2,7 @@
 use Rattle.std.proofs.Common.{◌≡◌, ℕ, List, Option, Some, sym, subst, Bool, Result}
 use Rattle.std.specs.Prelude.{IfOk}
 use Rattle.d64_survey.specs.Dump.{DumpView}
-use Rattle.program_arguments.specs.declared.asked.Format.{Format}
+use Rattle.program_arguments.specs.declared.jobs.Format.{Format}
 use Rattle.program_batch.specs.Answers.{Answer}
 use Rattle.program_batch.specs.declared.report.Verdict.{Verdict}
 use Rattle.d64_g64.specs.DumpOf.{dump_of}

@@ -4,8 +4,8 @@ use Rattle.sha2.specs.Sha256.{sha256}
 use Rattle.d64_image.specs.Disk.{Bytes}
 use Rattle.d64_survey.specs.Dump.{DumpView}
 use Rattle.d64_survey.specs.Inspection.{is_amiss}
-use Rattle.program_arguments.specs.declared.asked.Format.{Format}
-use Rattle.program_arguments.specs.declared.asked.Format.TheVariants.{Text, Json, Csv}
+use Rattle.program_arguments.specs.declared.jobs.Format.{Format}
+use Rattle.program_arguments.specs.declared.jobs.Format.TheVariants.{Text, Json, Csv}
 use Rattle.out_json_csv.specs.Values.{line_of}
 use Rattle.out_json_csv.specs.Checks.{check_object, check_row}
 use Rattle.out_json_csv.specs.Rows.{header_row, unanswered_row}

@@ -2,7 +2,7 @@
 use Rattle.std.specs.Prelude.{◌≡◌, Bool, List, ℕ, [], Option, Some, None, refl}
 use Rattle.d64_image.specs.Disk.{Bytes}
 use Rattle.d64_survey.specs.Dump.{DumpView}
-use Rattle.program_arguments.specs.declared.asked.Format.{Format}
+use Rattle.program_arguments.specs.declared.jobs.Format.{Format}
 use Rattle.program_batch.specs.Answers.{IsQuiet}
 use Rattle.program_batch.specs.declared.report.Verdict.TheVariants.{Clean}
 use Rattle.cmd_check.specs.Check.{answer_of, check_rule}

@@ -12,7 +12,7 @@ use d64_survey::{Dump, DumpFault, Fault, Inspection, ReadError};
 use out_json_csv::Scratch;
 use out_messages::{unread_line, wrong_length_line};
 use program_arguments::Format;
-use program_batch::{AnswerRoom, Report, Verdict};
+use program_batch::{Report, ReportBuffer, Verdict};
 use sha2::{Digest, Sha256};
 use std::alloc::{AllocError, Global};
 use std::mem;
@@ -47,16 +47,16 @@ impl CheckReport {
     }
 
     /// Puts what is printed of the dump that was read into the buffer, and returns the verdict.
-    fn tell_dump(
+    fn report_dump(
         &mut self,
         name: &[u8],
         bytes: &[u8],
-        room: &mut AnswerRoom,
+        buffer: &mut ReportBuffer,
     ) -> Result<Verdict, AllocError>
         ensures form { self.new.form ≡ self.old.form }
         ensures digest { self.new.has_digest ≡ self.old.has_digest }
-        ensures answered { room.old.printed.items ≡ [] → room.old.complaint.items ≡ [] → IfOk result (λ verdict.
-            record { printed = room.new.printed.items; complaint = room.new.complaint.items; verdict = verdict }
+        ensures answered { buffer.old.printed.items ≡ [] → buffer.old.complaint.items ≡ [] → IfOk result (λ verdict.
+            record { printed = buffer.new.printed.items; complaint = buffer.new.complaint.items; verdict = verdict }
             ≡ answer_of self.old.form self.old.has_digest name.now bytes.now (Some self.old.dump)) }
     {
         let digest = if self.has_digest {
@@ -65,8 +65,8 @@ impl CheckReport {
             None
         };
         let all = Inspection::of(&self.dump, &mut self.faults, &mut self.errors)?;
-        let out = mem::replace(&mut room.printed, Vec::new(self.alloc));
-        room.printed = print_dump(
+        let out = mem::replace(&mut buffer.printed, Vec::new(self.alloc));
+        buffer.printed = print_dump(
             &mut self.scratch,
             self.form,
             name,
@@ -82,34 +82,38 @@ impl CheckReport {
     }
 
     /// Puts what is printed of a file that cannot be read into the buffer.
-    fn tell_unread(&mut self, name: &[u8], room: &mut AnswerRoom) -> Result<Verdict, AllocError>
+    fn report_unread(
+        &mut self,
+        name: &[u8],
+        buffer: &mut ReportBuffer,
+    ) -> Result<Verdict, AllocError>
         ensures form { self.new.form ≡ self.old.form }
         ensures digest { self.new.has_digest ≡ self.old.has_digest }
-        ensures answered { room.old.printed.items ≡ [] → room.old.complaint.items ≡ [] → IfOk result (λ verdict.
-            record { printed = room.new.printed.items; complaint = room.new.complaint.items; verdict = verdict }
+        ensures answered { buffer.old.printed.items ≡ [] → buffer.old.complaint.items ≡ [] → IfOk result (λ verdict.
+            record { printed = buffer.new.printed.items; complaint = buffer.new.complaint.items; verdict = verdict }
             ≡ check_rule self.old.form self.old.has_digest name.now None) }
     {
-        let out = mem::replace(&mut room.printed, Vec::new(self.alloc));
-        room.printed = print_unread(&mut self.scratch, self.form, self.has_digest, name, out)?;
-        unread_line(&mut room.complaint, name)?;
+        let out = mem::replace(&mut buffer.printed, Vec::new(self.alloc));
+        buffer.printed = print_unread(&mut self.scratch, self.form, self.has_digest, name, out)?;
+        unread_line(&mut buffer.complaint, name)?;
         Ok(Verdict::Failed)
     }
 
     /// Puts what is printed of a file whose length is not a dump's into the buffer.
-    fn tell_wrong_length(
+    fn report_wrong_length(
         &mut self,
         name: &[u8],
         bytes: &[u8],
-        room: &mut AnswerRoom,
+        buffer: &mut ReportBuffer,
     ) -> Result<Verdict, AllocError>
         ensures form { self.new.form ≡ self.old.form }
         ensures digest { self.new.has_digest ≡ self.old.has_digest }
-        ensures answered { room.old.printed.items ≡ [] → room.old.complaint.items ≡ [] → IfOk result (λ verdict.
-            record { printed = room.new.printed.items; complaint = room.new.complaint.items; verdict = verdict }
+        ensures answered { buffer.old.printed.items ≡ [] → buffer.old.complaint.items ≡ [] → IfOk result (λ verdict.
+            record { printed = buffer.new.printed.items; complaint = buffer.new.complaint.items; verdict = verdict }
             ≡ answer_of self.old.form self.old.has_digest name.now bytes.now None) }
     {
-        let out = mem::replace(&mut room.printed, Vec::new(self.alloc));
-        room.printed = print_wrong_length(
+        let out = mem::replace(&mut buffer.printed, Vec::new(self.alloc));
+        buffer.printed = print_wrong_length(
             &mut self.scratch,
             self.form,
             self.has_digest,
@@ -117,7 +121,7 @@ impl CheckReport {
             bytes,
             out,
         )?;
-        wrong_length_line(&mut room.complaint, name, bytes)?;
+        wrong_length_line(&mut buffer.complaint, name, bytes)?;
         Ok(Verdict::Failed)
     }
 }
@@ -129,10 +133,10 @@ impl Report for CheckReport {
 
     ghost quiet = { λ report. check_rule-is_quiet report.form report.has_digest };
 
-    fn head(&mut self, room: &mut AnswerRoom) -> Result<(), AllocError> {
-        room.clear();
-        let out = mem::replace(&mut room.printed, Vec::new(self.alloc));
-        room.printed = print_heading(&mut self.scratch, self.form, self.has_digest, out)?;
+    fn head(&mut self, buffer: &mut ReportBuffer) -> Result<(), AllocError> {
+        buffer.clear();
+        let out = mem::replace(&mut buffer.printed, Vec::new(self.alloc));
+        buffer.printed = print_heading(&mut self.scratch, self.form, self.has_digest, out)?;
         Ok(())
     }
 
@@ -140,15 +144,15 @@ impl Report for CheckReport {
         &mut self,
         name: &[u8],
         bytes: Option<&[u8]>,
-        room: &mut AnswerRoom,
+        buffer: &mut ReportBuffer,
     ) -> Result<Verdict, AllocError> {
-        room.clear();
+        buffer.clear();
         let Some(bytes) = bytes else {
-            return self.tell_unread(name, room);
+            return self.report_unread(name, buffer);
         };
         match refill_from(&mut self.dump, self.alloc, bytes) {
-            Ok(()) => self.tell_dump(name, bytes, room),
-            Err(DumpFault::WrongLength(_)) => self.tell_wrong_length(name, bytes, room),
+            Ok(()) => self.report_dump(name, bytes, buffer),
+            Err(DumpFault::WrongLength(_)) => self.report_wrong_length(name, bytes, buffer),
             Err(DumpFault::Memory(error)) => Err(error),
         }
     }

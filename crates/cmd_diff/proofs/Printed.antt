@@ -6,8 +6,8 @@ use Rattle.std.proofs.lemmas.List.{flat_map_more}
 use Rattle.d64_map.proofs.Ranges.{range_push}
 use Rattle.d64_inventory.specs.Rows.{row_at}
 use Rattle.d64_survey.specs.Dump.{DumpView}
-use Rattle.program_arguments.specs.declared.asked.DiffForm.{DiffForm}
-use Rattle.program_arguments.specs.declared.asked.DiffForm.TheVariants.{Text, Json}
+use Rattle.program_arguments.specs.declared.jobs.DiffForm.{DiffForm}
+use Rattle.program_arguments.specs.declared.jobs.DiffForm.TheVariants.{Text, Json}
 use Rattle.out_json_csv.specs.Values.{line_of}
 use Rattle.cmd_diff.specs.Changes.{DumpChange, BlocksChanged, CodesChanged, slot_change, slot_changes, where_any}
 use Rattle.cmd_diff.specs.ChangeObject.{change_object}

@@ -93,9 +93,9 @@ no_blocks [] none = refl
 no_blocks (block ∷ blocks) none = absurd (cc)
 
 -- if no change is listed, no block is
-no_block_told : (old new : DumpView) → changes old new ≡ [] → changed_blocks old.image new.image ≡ []
+no_block_listed : (old new : DumpView) → changes old new ≡ [] → changed_blocks old.image new.image ≡ []
 unfolding changes
-no_block_told old new none =
+no_block_listed old new none =
     let rest = no_second (disk_change old new) _ none in
     let last = no_second (slot_changes old new (slot_count old new)) _ rest in
     no_blocks (changed_blocks old.image new.image) (no_first (where_any BlocksChanged (changed_blocks old.image new.image)) _ last)
@@ -111,8 +111,8 @@ larger_differs large small each less none =
     let block = length small in
     let here = (All-get_or IsBlock large block [] less each).0 in
     let other : sector_at large block ≢ sector_at small block = λ same. let e = ap length (same ∙ past_end small) in omega (arith, here, e) in
-    let told = differences-to large small block less other in
-    let within : told.0 < length (differences large small) = told.1 in
+    let reported = differences-to large small block less other in
+    let within : reported.0 < length (differences large small) = reported.1 in
     let e = ap length none in
     omega (arith, within, e)
 
@@ -130,6 +130,6 @@ by_sizes old new (inr a) (inl b) is_old is_new none =
     absurd (larger_differs old new is_old (omega (arith, a, b)) (sym (ap₂ (by_counts old new) a b) ∙ none))
 
 -- if no change is listed, the images are equal
-pub equal_where_silent : (old new : DumpView) → IsDump old → IsDump new → changes old new ≡ [] → old.image ≡ new.image
-equal_where_silent old new is_old is_new none =
-    by_sizes old.image new.image is_old.0.0 is_new.0.0 is_old.0.1 is_new.0.1 (no_block_told old new none)
+pub equal_if_silent : (old new : DumpView) → IsDump old → IsDump new → changes old new ≡ [] → old.image ≡ new.image
+equal_if_silent old new is_old is_new none =
+    by_sizes old.image new.image is_old.0.0 is_new.0.0 is_old.0.1 is_new.0.1 (no_block_listed old new none)

@@ -13,8 +13,8 @@ use Rattle.program_batch.specs.Answers.{Answer}
 use Rattle.program_batch.specs.Reasons.{with_known_reason}
 use Rattle.program_batch.specs.declared.reason.Reason.{Reason}
 use Rattle.program_batch.specs.declared.report.Verdict.TheVariants.{Clean, Amiss, Failed}
-use Rattle.program_arguments.specs.declared.asked.DiffForm.{DiffForm}
-use Rattle.program_arguments.specs.declared.asked.DiffForm.TheVariants.{Text, Json}
+use Rattle.program_arguments.specs.declared.jobs.DiffForm.{DiffForm}
+use Rattle.program_arguments.specs.declared.jobs.DiffForm.TheVariants.{Text, Json}
 use Rattle.cmd_diff.specs.Changes.{DumpChange, changes}
 use Rattle.cmd_diff.specs.ChangeObject.{blocks_object, change_object}
 use Rattle.cmd_diff.specs.ChangeText.{blocks_line, change_lines, heading}

@@ -3,7 +3,7 @@ use Rattle.std.specs.Prelude.{◌≡◌, [], Some, Ok}
 use Rattle.d64_image.specs.Disk.{Bytes}
 use Rattle.d64_survey.specs.Dump.{DumpView, IsDump}
 use Rattle.d64_g64.specs.DumpOf.{dump_of}
-use Rattle.program_arguments.specs.declared.asked.DiffForm.{DiffForm}
+use Rattle.program_arguments.specs.declared.jobs.DiffForm.{DiffForm}
 use Rattle.cmd_diff.specs.Changes.{changes}
 use Rattle.cmd_diff.specs.Differences.{difference_rule, silence}
 
@@ -20,5 +20,5 @@ EqualDumpsAreSilent =
     → difference_rule form old_name (Ok old) new_name (Ok new) ≡ silence
 
 -- if no change is listed, the images are equal: each byte of an image that differs is listed
-abbrev pub EachByteOfImagesIsTold : Type 0
-EachByteOfImagesIsTold = (old new : DumpView) → IsDump old → IsDump new → changes old new ≡ [] → old.image ≡ new.image
+abbrev pub EachByteOfImagesIsListed : Type 0
+EachByteOfImagesIsListed = (old new : DumpView) → IsDump old → IsDump new → changes old new ≡ [] → old.image ≡ new.image

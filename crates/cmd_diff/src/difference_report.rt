@@ -4,13 +4,13 @@ ghost use Rattle.program_batch.specs.Answers.{Answer};
 ghost use Rattle.cmd_diff.specs.Differences.{contents_by, printed_difference, unanswered_pair, difference_rule, difference_by};
 
 use crate::drafts::Drafts;
-use crate::dump_room::{DumpRoom, are_same};
+use crate::dump_buffer::{DumpBuffer, are_same};
 use crate::printing::{print_changes, push_difference};
 use crate::unanswered::{print_fault, push_fault_lines};
 use d64_survey::Inspection;
 use out_json_csv::Scratch;
 use program_arguments::DiffForm;
-use program_batch::{AnswerRoom, Reason, Verdict};
+use program_batch::{Reason, ReportBuffer, Verdict};
 use std::alloc::{AllocError, Global};
 use std::mem;
 
@@ -19,8 +19,8 @@ use std::mem;
 pub struct DifferenceReport {
     alloc: Global,
     form: DiffForm,
-    earlier: DumpRoom,
-    later: DumpRoom,
+    earlier: DumpBuffer,
+    later: DumpBuffer,
     drafts: Drafts,
     scratch: Scratch,
 }
@@ -33,8 +33,8 @@ impl DifferenceReport {
         Ok(DifferenceReport {
             alloc,
             form,
-            earlier: DumpRoom::new(alloc)?,
-            later: DumpRoom::new(alloc)?,
+            earlier: DumpBuffer::new(alloc)?,
+            later: DumpBuffer::new(alloc)?,
             drafts: Drafts::new(alloc),
             scratch: Scratch::new(alloc),
         })
@@ -79,25 +79,25 @@ impl DifferenceReport {
 
     /// Reports why two files, with these bytes or the reason why one cannot be read, are not
     /// compared.
-    fn tell_unanswered(
+    fn report_unanswered(
         &mut self,
         old_name: &[u8],
         old: Result<&[u8], Option<Reason>>,
         new_name: &[u8],
         new: Result<&[u8], Option<Reason>>,
-        room: &mut AnswerRoom,
+        buffer: &mut ReportBuffer,
     ) -> Result<Verdict, AllocError>
         ensures form { self.new.form ≡ self.old.form }
-        ensures answered { room.old.printed.items ≡ [] → room.old.complaint.items ≡ [] → IfOk result (λ verdict.
-            record { printed = room.new.printed.items; complaint = room.new.complaint.items; verdict = verdict }
+        ensures answered { buffer.old.printed.items ≡ [] → buffer.old.complaint.items ≡ [] → IfOk result (λ verdict.
+            record { printed = buffer.new.printed.items; complaint = buffer.new.complaint.items; verdict = verdict }
             ≡ unanswered_pair self.old.form old_name.now (contents_by (λ bytes. bytes.now) old.entry) new_name.now (contents_by (λ bytes. bytes.now) new.entry)) }
     {
-        let out = mem::replace(&mut room.printed, Vec::new(self.alloc));
+        let out = mem::replace(&mut buffer.printed, Vec::new(self.alloc));
         let first = print_fault(self.form, &mut self.scratch, old_name, old, out)?;
-        room.printed = print_fault(self.form, &mut self.scratch, new_name, new, first)?;
+        buffer.printed = print_fault(self.form, &mut self.scratch, new_name, new, first)?;
         push_fault_lines(
             self.alloc,
-            &mut room.complaint,
+            &mut buffer.complaint,
             old_name,
             old,
             new_name,
@@ -107,28 +107,28 @@ impl DifferenceReport {
     }
 
     /// Compares two files with these bytes.
-    fn tell_bytes(
+    fn report_bytes(
         &mut self,
         old_name: &[u8],
         old: &[u8],
         new_name: &[u8],
         new: &[u8],
-        room: &mut AnswerRoom,
+        buffer: &mut ReportBuffer,
     ) -> Result<Verdict, AllocError>
         ensures form { self.new.form ≡ self.old.form }
-        ensures answered { room.old.printed.items ≡ [] → room.old.complaint.items ≡ [] → IfOk result (λ verdict.
-            record { printed = room.new.printed.items; complaint = room.new.complaint.items; verdict = verdict }
+        ensures answered { buffer.old.printed.items ≡ [] → buffer.old.complaint.items ≡ [] → IfOk result (λ verdict.
+            record { printed = buffer.new.printed.items; complaint = buffer.new.complaint.items; verdict = verdict }
             ≡ difference_rule self.old.form old_name.now (Ok old.now) new_name.now (Ok new.now)) }
     {
         let is_old = self.earlier.refill(old)?;
         let is_new = self.later.refill(new)?;
         if !is_old || !is_new {
-            return self.tell_unanswered(old_name, Ok(old), new_name, Ok(new), room);
+            return self.report_unanswered(old_name, Ok(old), new_name, Ok(new), buffer);
         }
         if are_same(&self.earlier.dump, &self.later.dump) {
             return Ok(Verdict::Clean);
         }
-        self.print(old_name, new_name, &mut room.printed)?;
+        self.print(old_name, new_name, &mut buffer.printed)?;
         Ok(Verdict::Amiss)
     }
 
@@ -141,16 +141,16 @@ impl DifferenceReport {
         old: Result<&[u8], Option<Reason>>,
         new_name: &[u8],
         new: Result<&[u8], Option<Reason>>,
-        room: &mut AnswerRoom,
+        buffer: &mut ReportBuffer,
     ) -> Result<Verdict, AllocError>
         ensures form { self.new.form ≡ self.old.form }
-        ensures answered { IfOk result (λ verdict. record { printed = room.new.printed.items; complaint = room.new.complaint.items; verdict = verdict }
+        ensures answered { IfOk result (λ verdict. record { printed = buffer.new.printed.items; complaint = buffer.new.complaint.items; verdict = verdict }
             ≡ difference_rule self.old.form old_name.now (contents_by (λ bytes. bytes.now) old.entry) new_name.now (contents_by (λ bytes. bytes.now) new.entry)) }
     {
-        room.clear();
+        buffer.clear();
         match (old, new) {
-            (Ok(old), Ok(new)) => self.tell_bytes(old_name, old, new_name, new, room),
-            (old, new) => self.tell_unanswered(old_name, old, new_name, new, room),
+            (Ok(old), Ok(new)) => self.report_bytes(old_name, old, new_name, new, buffer),
+            (old, new) => self.report_unanswered(old_name, old, new_name, new, buffer),
         }
     }
 }

@@ -5,7 +5,7 @@
 mod blocks;
 mod difference_report;
 mod drafts;
-mod dump_room;
+mod dump_buffer;
 mod laws;
 mod lines;
 mod objects;
@@ -15,5 +15,5 @@ mod unanswered;
 
 pub use blocks::{list_changed_blocks, list_changed_codes};
 pub use difference_report::DifferenceReport;
-pub use laws::{equal_dumps_are_silent, images_are_told};
+pub use laws::{equal_dumps_are_silent, images_are_listed};
 pub use unanswered::{print_fault, push_fault_line};

@@ -15,11 +15,11 @@ use Rattle.cmd_files.specs.Files.{after_rows}
 use Rattle.cmd_files.specs.Extracts.{as_json, printed_file}
 use Rattle.cmd_extract.specs.Setup.{TaskView}
 use Rattle.cmd_extract.specs.Paths.{path_in}
-use Rattle.cmd_extract.specs.Progress.{Progress, portion_of, row_name, told_progress, spent_progress, named_progress, written_progress, unwritten_progress}
+use Rattle.cmd_extract.specs.Progress.{Progress, portion_of, row_name, reported_progress, spent_progress, named_progress, written_progress, unwritten_progress}
 use Rattle.cmd_extract.specs.declared.list_state.ListState.{ListState}
 use Rattle.cmd_extract.specs.Work.{Work, NewFile, SaysFile, LeadsTo}
 use Rattle.cmd_extract.specs.Unpacking.{closed_progress, after_writing, write_work, file_work, wait_work, files_work, list_work}
-use Rattle.cmd_extract.proofs.Steps.{asked, explained, nothing_yet}
+use Rattle.cmd_extract.proofs.Steps.{called, explained, nothing_yet}
 
 -- a test of whether there is no value
 is_some_by : (t : Bool) (over : Bool) → over ≡ not t → over ≡ true → t ≡ false
@@ -51,7 +51,7 @@ pub wrote : (task : TaskView) (row : Row) (file bytes path given : List ℕ) (p 
     → path ≡ path_in task.partial file → given ≡ bytes → SaysFile (is_utf8 path) path given old said now
     → LeadsTo (write_work task row file bytes p rest) old (after_writing task row file p rest said) now
 wrote task row file bytes path given p rest old now said path_is given_is says =
-    asked (NewFile (path_in task.partial file) bytes) (after_writing task row file p rest) old now said
+    called (NewFile (path_in task.partial file) bytes) (after_writing task row file p rest) old now said
     (subst (λ (b : List ℕ). SaysFile (is_utf8 (path_in task.partial file)) (path_in task.partial file) b old said now) given_is
     (subst (λ (q : List ℕ). SaysFile (is_utf8 q) q given old said now) path_is says))
 
@@ -67,18 +67,18 @@ was_not task row file p rest host said reason is says =
     (explained (λ (r : Option Reason). rest (unwritten_progress task row file r p)) host reason says)
 
 -- no file was written, and its line was added
-pub told_none : {A E : Type 0} (result : Result A E) (task : TaskView) (row : Row) (p : Progress) (left : Option ℕ) (printed lines complaint : List ℕ) (list : ListState) (failed : Bool)
+pub reported_none : {A E : Type 0} (result : Result A E) (task : TaskView) (row : Row) (p : Progress) (left : Option ℕ) (printed lines complaint : List ℕ) (list : ListState) (failed : Bool)
     → left ≡ left_after p.left (portion_of task row) → OnOk result (printed ≡ p.printed ++ printed_file task.setup.form task.name task.dump.image row None)
     → OnOk result (lines ≡ p.lines ++ printed_file (as_json task.setup.form) task.name task.dump.image row None) → complaint ≡ p.complaint → list ≡ p.list → failed ≡ p.has_failed
-    → OnOk result (◌≡◌ {A = Progress} (record { left = left; taken = p.taken; printed = printed; lines = lines; list = list; complaint = complaint; has_failed = failed }) (told_progress task row None (spent_progress task row p)))
-unfolding told_progress
-told_none (Ok done) task row p left printed lines complaint list failed l pr li co st fa =
+    → OnOk result (◌≡◌ {A = Progress} (record { left = left; taken = p.taken; printed = printed; lines = lines; list = list; complaint = complaint; has_failed = failed }) (reported_progress task row None (spent_progress task row p)))
+unfolding reported_progress
+reported_none (Ok done) task row p left printed lines complaint list failed l pr li co st fa =
     λ i. record { left = l i; taken = p.taken; printed = pr i; lines = li i; list = st i; complaint = co i; has_failed = fa i }
-told_none (Err fault) task row p left printed lines complaint list failed l pr li co st fa = tt
+reported_none (Err fault) task row p left printed lines complaint list failed l pr li co st fa = tt
 
 -- if this is found of the file, what there is to write is what is written
 pub file_none : (task : TaskView) (row : Row) (p : Progress) (portion : Option Portion) (rest : Progress → Work) → None ≡ portion
-    → rest (told_progress task row None p) ≡ file_work task row p portion rest
+    → rest (reported_progress task row None p) ≡ file_work task row p portion rest
 unfolding file_work
 file_none task row p portion rest is = ap (λ (q : Option Portion). file_work task row p q rest) is
 

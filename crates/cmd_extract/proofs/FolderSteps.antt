@@ -6,7 +6,7 @@ use Rattle.host_storage.specs.Files.{HostState}
 use Rattle.cmd_extract.specs.Paths.{with_slash, place_below}
 use Rattle.cmd_extract.specs.Work.{Work, Folder, Says, LeadsTo}
 use Rattle.cmd_extract.specs.Unpacking.{folders_work}
-use Rattle.cmd_extract.proofs.Steps.{asked, nothing_yet}
+use Rattle.cmd_extract.proofs.Steps.{called, nothing_yet}
 
 -- the texts of folders
 abbrev pub texts : List (Bor (List ℕ)) → List (List ℕ)
@@ -39,7 +39,7 @@ unfolding folders_work
 had_folder rest place folder path now_place later all old now said is_all is_path is_place says is_said =
     subst (λ (fs : List (List ℕ)). LeadsTo (folders_work rest place fs) old (folders_work rest now_place later) now) (sym is_all)
     (subst (λ (p : List ℕ). LeadsTo (folders_work rest place (folder ∷ later)) old (folders_work rest p later) now) (sym (is_place ∙ ap with_slash is_path))
-    (asked (Folder (place ++ folder)) (λ is_had. cond is_had (folders_work rest (with_slash (place ++ folder)) later) (rest (Some (place ++ folder)))) old now true
+    (called (Folder (place ++ folder)) (λ is_had. cond is_had (folders_work rest (with_slash (place ++ folder)) later) (rest (Some (place ++ folder)))) old now true
     (subst (λ (s : Bool). Says (Folder (place ++ folder)) old s now) is_said (subst (λ (p : List ℕ). Says (Folder p) old said now) is_path says))))
 
 -- a folder can't be made
@@ -49,7 +49,7 @@ unfolding folders_work
 lacked_folder rest place folder path later all old now said is_all is_path says is_said =
     subst (λ (fs : List (List ℕ)). LeadsTo (folders_work rest place fs) old (rest (Some path)) now) (sym is_all)
     (subst (λ (p : List ℕ). LeadsTo (folders_work rest place (folder ∷ later)) old (rest (Some p)) now) (sym is_path)
-    (asked (Folder (place ++ folder)) (λ is_had. cond is_had (folders_work rest (with_slash (place ++ folder)) later) (rest (Some (place ++ folder)))) old now false
+    (called (Folder (place ++ folder)) (λ is_had. cond is_had (folders_work rest (with_slash (place ++ folder)) later) (rest (Some (place ++ folder)))) old now false
     (subst (λ (s : Bool). Says (Folder (place ++ folder)) old s now) is_said (subst (λ (p : List ℕ). Says (Folder p) old said now) is_path says))))
 
 -- all folders are there

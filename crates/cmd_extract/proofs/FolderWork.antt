@@ -10,7 +10,7 @@ use Rattle.cmd_extract.specs.Paths.{path_inside, list_in}
 use Rattle.cmd_extract.specs.Progress.{Progress, first_progress}
 use Rattle.cmd_extract.specs.Work.{Work, Done, Then, Why, Look, NewFolder, Rename, Says, LeadsTo}
 use Rattle.cmd_extract.specs.Unpacking.{unfinished_answer, finished_answer, unnamed_answer, unmade_answer, present_answer, skipped_answer, after_naming, name_work, unmade_work, files_work, folder_work, folders_work, folder_after, present_work, task_work_with}
-use Rattle.cmd_extract.proofs.Steps.{asked, explained, further, nothing_yet}
+use Rattle.cmd_extract.proofs.Steps.{called, explained, further, nothing_yet}
 
 -- a write failed, and nothing more is done
 pub not_named : (task : TaskView) (p : Progress) → p.has_failed ≡ true → Done (unfinished_answer p) ≡ name_work task p
@@ -23,7 +23,7 @@ pub renamed : (task : TaskView) (p : Progress) (old now : HostState) (said : Boo
 unfolding name_work
 renamed task p old now said unfailed says =
     subst (λ (t : Bool). LeadsTo (cond t (Done (unfinished_answer p)) (Then (Rename task.partial task.done) (after_naming task p))) old (after_naming task p said) now) (sym unfailed)
-    (asked (Rename task.partial task.done) (after_naming task p) old now said says)
+    (called (Rename task.partial task.done) (after_naming task p) old now said says)
 
 -- it has it
 pub named : (task : TaskView) (p : Progress) (host : HostState) (said : Bool) → said ≡ true → LeadsTo (after_naming task p said) host (Done (finished_answer task p)) host
@@ -47,7 +47,7 @@ unmade : (task : TaskView) (path into : List ℕ) (host : HostState) (said : Boo
 unfolding unmade_work
 unmade task path into host said reason is_into says why =
     further _ (Why (λ (r : Option Reason). Done (unmade_answer task (named_folder task path said) r))) _ host host host
-    (asked (Look task.setup.into) (λ is_there. Why (λ reason. Done (unmade_answer task (named_folder task path is_there) reason))) host host said
+    (called (Look task.setup.into) (λ is_there. Why (λ reason. Done (unmade_answer task (named_folder task path is_there) reason))) host host said
     (subst (λ (q : List ℕ). Says (Look q) host said host) is_into says))
     (explained (λ (r : Option Reason). Done (unmade_answer task (named_folder task path said) r)) host reason why)
 
@@ -66,7 +66,7 @@ pub made : (task : TaskView) (path : List ℕ) (old now : HostState) (said : Boo
     → LeadsTo (folder_work task) old (files_work task (rows (files_and task.setup.form.leftovers) task.dump) (first_progress task)) now
 unfolding folder_work
 made task path old now said is_path says is_said =
-    asked (NewFolder task.partial) (λ is_made. cond is_made (files_work task (rows (files_and task.setup.form.leftovers) task.dump) (first_progress task)) (unmade_work task task.partial)) old now true
+    called (NewFolder task.partial) (λ is_made. cond is_made (files_work task (rows (files_and task.setup.form.leftovers) task.dump) (first_progress task)) (unmade_work task task.partial)) old now true
     (subst (λ (s : Bool). Says (NewFolder task.partial) old s now) is_said (subst (λ (q : List ℕ). Says (NewFolder q) old said now) is_path says))
 
 -- or wasn't
@@ -74,7 +74,7 @@ pub not_made : (task : TaskView) (path : List ℕ) (old now : HostState) (said :
     → LeadsTo (folder_work task) old (unmade_work task task.partial) now
 unfolding folder_work
 not_made task path old now said is_path says is_said =
-    asked (NewFolder task.partial) (λ is_made. cond is_made (files_work task (rows (files_and task.setup.form.leftovers) task.dump) (first_progress task)) (unmade_work task task.partial)) old now false
+    called (NewFolder task.partial) (λ is_made. cond is_made (files_work task (rows (files_and task.setup.form.leftovers) task.dump) (first_progress task)) (unmade_work task task.partial)) old now false
     (subst (λ (s : Bool). Says (NewFolder task.partial) old s now) is_said (subst (λ (q : List ℕ). Says (NewFolder q) old said now) is_path says))
 
 -- what comes after the look at the folder that isn't there
@@ -90,7 +90,7 @@ pub is_done : (task : TaskView) (folders : List (List ℕ)) (path : List ℕ) (o
     → LeadsTo (task_work_with task folders) old (present_work task) now
 unfolding task_work_with
 is_done task folders path old now said is_path says is_said =
-    asked (Look task.done) (λ is_done. cond is_done (present_work task) (after_look task folders)) old now true
+    called (Look task.done) (λ is_done. cond is_done (present_work task) (after_look task folders)) old now true
     (subst (λ (s : Bool). Says (Look task.done) old s now) is_said (subst (λ (q : List ℕ). Says (Look q) old said now) is_path says))
 
 -- what is there is not to be passed over
@@ -106,7 +106,7 @@ unfolding present_work
 looked_into task path host said is is_path says =
     subst (λ (t : Bool). LeadsTo (cond t (Then (Look (list_in task.done)) (λ is_complete. Done (cond is_complete (skipped_answer task) (present_answer task task.done)))) (Done (present_answer task task.done))) host
     (Done (cond said (skipped_answer task) (present_answer task task.done))) host) (sym is)
-    (asked (Look (list_in task.done)) (λ is_complete. Done (cond is_complete (skipped_answer task) (present_answer task task.done))) host host said
+    (called (Look (list_in task.done)) (λ is_complete. Done (cond is_complete (skipped_answer task) (present_answer task task.done))) host host said
     (subst (λ (q : List ℕ). Says (Look q) host said host) is_path says))
 
 -- it isn't
@@ -114,19 +114,19 @@ pub not_done : (task : TaskView) (folders : List (List ℕ)) (path : List ℕ) (
     → LeadsTo (task_work_with task folders) old (after_look task folders) now
 unfolding task_work_with
 not_done task folders path old now said is_path says is_said =
-    asked (Look task.done) (λ is_done. cond is_done (present_work task) (after_look task folders)) old now false
+    called (Look task.done) (λ is_done. cond is_done (present_work task) (after_look task folders)) old now false
     (subst (λ (s : Bool). Says (Look task.done) old s now) is_said (subst (λ (q : List ℕ). Says (Look q) old said now) is_path says))
 
 -- what it is before is there
 pub is_begun : (task : TaskView) (folders : List (List ℕ)) (path : List ℕ) (old now : HostState) (said : Bool) → path ≡ task.partial → Says (Look path) old said now → said ≡ true
     → LeadsTo (after_look task folders) old (Done (present_answer task task.partial)) now
 is_begun task folders path old now said is_path says is_said =
-    asked (Look task.partial) (λ is_begun. cond is_begun (Done (present_answer task task.partial)) (folders_work (folder_after task) (path_inside task.setup.into) folders)) old now true
+    called (Look task.partial) (λ is_begun. cond is_begun (Done (present_answer task task.partial)) (folders_work (folder_after task) (path_inside task.setup.into) folders)) old now true
     (subst (λ (s : Bool). Says (Look task.partial) old s now) is_said (subst (λ (q : List ℕ). Says (Look q) old said now) is_path says))
 
 -- neither is
 pub not_begun : (task : TaskView) (folders : List (List ℕ)) (path : List ℕ) (old now : HostState) (said : Bool) → path ≡ task.partial → Says (Look path) old said now → said ≡ false
     → LeadsTo (after_look task folders) old (folders_work (folder_after task) (path_inside task.setup.into) folders) now
 not_begun task folders path old now said is_path says is_said =
-    asked (Look task.partial) (λ is_begun. cond is_begun (Done (present_answer task task.partial)) (folders_work (folder_after task) (path_inside task.setup.into) folders)) old now false
+    called (Look task.partial) (λ is_begun. cond is_begun (Done (present_answer task task.partial)) (folders_work (folder_after task) (path_inside task.setup.into) folders)) old now false
     (subst (λ (s : Bool). Says (Look task.partial) old s now) is_said (subst (λ (q : List ℕ). Says (Look q) old said now) is_path says))

@@ -13,7 +13,7 @@ use Rattle.cmd_extract.specs.declared.list_state.ListState.{ListState}
 use Rattle.cmd_extract.specs.declared.list_state.ListState.TheVariants.{New, Begun, GivenUp}
 use Rattle.cmd_extract.specs.Work.{Work, NewFile, MoreOfFile, SaysFile, SaysMore, LeadsTo}
 use Rattle.cmd_extract.specs.Unpacking.{after_putting, put_work, wait_work}
-use Rattle.cmd_extract.proofs.Steps.{asked, explained, nothing_yet}
+use Rattle.cmd_extract.proofs.Steps.{called, explained, nothing_yet}
 
 -- a piece was put
 pub piece_put : (task : TaskView) (p : Progress) (rest : Progress → Work) (host : HostState) (is_put : Bool) → is_put ≡ true → LeadsTo (after_putting task p rest is_put) host (rest (put_progress p)) host
@@ -42,7 +42,7 @@ pub put_new : (task : TaskView) (p : Progress) (rest : Progress → Work) (state
 unfolding put_work
 put_new task p rest state path lines old now said is_new is_path is_lines says =
     subst (λ (s : ListState). LeadsTo (put_work s task p rest) old (after_putting task p rest said) now) (sym is_new)
-    (asked (NewFile (list_path task) p.lines) (after_putting task p rest) old now said
+    (called (NewFile (list_path task) p.lines) (after_putting task p rest) old now said
     (subst (λ (b : List ℕ). SaysFile (is_utf8 (list_path task)) (list_path task) b old said now) is_lines
     (subst (λ (q : List ℕ). SaysFile (is_utf8 q) q lines old said now) is_path says)))
 
@@ -52,7 +52,7 @@ pub put_more : (task : TaskView) (p : Progress) (rest : Progress → Work) (stat
 unfolding put_work
 put_more task p rest state path lines old now said is_begun is_path is_lines says =
     subst (λ (s : ListState). LeadsTo (put_work s task p rest) old (after_putting task p rest said) now) (sym is_begun)
-    (asked (MoreOfFile (list_path task) p.lines) (after_putting task p rest) old now said
+    (called (MoreOfFile (list_path task) p.lines) (after_putting task p rest) old now said
     (subst (λ (b : List ℕ). SaysMore (is_utf8 (list_path task)) (list_path task) b old said now) is_lines
     (subst (λ (q : List ℕ). SaysMore (is_utf8 q) q lines old said now) is_path says)))
 

@@ -18,7 +18,7 @@ use Rattle.cmd_files.specs.Selections.{files_and}
 use Rattle.cmd_extract.specs.Setup.{SetupView, TaskView}
 use Rattle.cmd_extract.specs.Paths.{path_inside, with_slash, list_in, path_in}
 use Rattle.cmd_extract.specs.Work.{Work, Done, Then, Why, Look, Rename, Does}
-use Rattle.cmd_extract.specs.Progress.{Progress, waiting_limit, first_progress, portion_of, row_name, told_progress, spent_progress, named_progress, written_progress, unwritten_progress, failed_at, put_progress, unput_progress, dropped_progress}
+use Rattle.cmd_extract.specs.Progress.{Progress, waiting_limit, first_progress, portion_of, row_name, reported_progress, spent_progress, named_progress, written_progress, unwritten_progress, failed_at, put_progress, unput_progress, dropped_progress}
 use Rattle.cmd_extract.specs.declared.list_state.ListState.{ListState}
 use Rattle.cmd_extract.specs.declared.list_state.ListState.TheVariants.{New, Begun, GivenUp}
 use Rattle.program_batch.specs.declared.reason.Reason.{Reason}
@@ -34,10 +34,10 @@ IsQuietWork (Why next) = (reason : Option Reason) → IsQuietWork (next reason)
 -- then a clean result has none
 does_quietly : (work : Work) (old new : HostState) (answer : Answer) → IsQuietWork work → Does work old (Some answer) new → answer.verdict ≡ Clean → answer.complaint ≡ []
 unfolding Does IsQuietWork
-does_quietly (Done told) old new answer quiet (same, inl is) clean =
-    let e : answer ≡ told = cc in
+does_quietly (Done reported) old new answer quiet (same, inl is) clean =
+    let e : answer ≡ reported = cc in
     ap (λ (a : Answer). a.complaint) e ∙ quiet (sym (ap (λ (a : Answer). a.verdict) e) ∙ clean)
-does_quietly (Done told) old new answer quiet (same, inr is) clean = absurd (let e : Some answer ≡ None = is in cc)
+does_quietly (Done reported) old new answer quiet (same, inr is) clean = absurd (let e : Some answer ≡ None = is in cc)
 does_quietly (Then call next) old new answer quiet (inl (said, middle, says, done)) clean = does_quietly (next said) middle new answer (quiet said) done clean
 does_quietly (Then call next) old new answer quiet (inr (same, is)) clean = absurd (let e : Some answer ≡ None = is in cc)
 does_quietly (Why next) old new answer quiet (inl (reason, says, done)) clean = does_quietly (next reason) old new answer (quiet reason) done clean
@@ -104,14 +104,14 @@ listed_quiet task p quiet =
     (λ reason. named_quiet task (unput_progress task reason p) (λ unfailed. absurd (let e : true ≡ false = unfailed in cc))) (named_quiet task (dropped_progress p) quiet)
 
 -- one more file
-told_quiet : (task : TaskView) (row : Row) (path : Option (List ℕ)) (p : Progress) → IsQuietSoFar p → IsQuietSoFar (told_progress task row path p)
-unfolding told_progress
-told_quiet task row path p quiet = quiet
+reported_quiet : (task : TaskView) (row : Row) (path : Option (List ℕ)) (p : Progress) → IsQuietSoFar p → IsQuietSoFar (reported_progress task row path p)
+unfolding reported_progress
+reported_quiet task row path p quiet = quiet
 
 file_quiet : (task : TaskView) (row : Row) (p : Progress) (portion : Option Portion) (rest : Progress → Work) → IsQuietSoFar p → ((q : Progress) → IsQuietSoFar q → IsQuietWork (rest q))
     → IsQuietWork (file_work task row p portion rest)
 unfolding file_work IsQuietWork
-file_quiet task row p None rest quiet later = later (told_progress task row None p) (told_quiet task row None p quiet)
+file_quiet task row p None rest quiet later = later (reported_progress task row None p) (reported_quiet task row None p quiet)
 file_quiet task row p (Some portion) rest quiet later = by_writing
   where
     file : List ℕ
@@ -121,9 +121,9 @@ file_quiet task row p (Some portion) rest quiet later = by_writing
     named = named_progress file p
 
     by_writing : (said : Bool) → IsQuietWork (after_writing task row file named rest said)
-    by_writing true = later (written_progress task row file named) (told_quiet task row (Some (path_in task.done file)) named quiet)
+    by_writing true = later (written_progress task row file named) (reported_quiet task row (Some (path_in task.done file)) named quiet)
     by_writing false = λ reason. later (unwritten_progress task row file reason named)
-        (told_quiet task row None (failed_at (path_in task.partial file) reason named) (λ unfailed. absurd (let e : true ≡ false = unfailed in cc)))
+        (reported_quiet task row None (failed_at (path_in task.partial file) reason named) (λ unfailed. absurd (let e : true ≡ false = unfailed in cc)))
 
 files_quiet : (task : TaskView) (rows : List Row) (p : Progress) → IsQuietSoFar p → IsQuietWork (files_work task rows p)
 unfolding files_work

@@ -9,5 +9,5 @@ use Rattle.cmd_extract.specs.Unpacking.{refused_answer}
 -- a result for this name, with this complaint
 pub refused_with : {E : Type 0} (result : Result Verdict E) (answer : Verdict → Answer) (setup : SetupView) (named name error complaint wanted : List ℕ) → named ≡ name → complaint ≡ wanted
     → IfOk result (λ verdict. answer verdict ≡ refused_answer setup named error complaint) → IfOk result (λ verdict. answer verdict ≡ refused_answer setup name error wanted)
-refused_with (Ok verdict) answer setup named name error complaint wanted is_name is told = told ∙ ap₂ (λ n c. refused_answer setup n error c) is_name is
-refused_with (Err fault) answer setup named name error complaint wanted is_name is told = tt
+refused_with (Ok verdict) answer setup named name error complaint wanted is_name is reported = reported ∙ ap₂ (λ n c. refused_answer setup n error c) is_name is
+refused_with (Err fault) answer setup named name error complaint wanted is_name is reported = tt

@@ -6,7 +6,7 @@ use Rattle.program_batch.specs.Answers.{Answer}
 use Rattle.program_batch.specs.Reasons.{IsWriteReason}
 use Rattle.program_batch.specs.declared.reason.Reason.{Reason}
 use Rattle.program_batch.specs.declared.report.Verdict.{Verdict}
-use Rattle.program_batch.specs.declared.report.AnswerRoom.{AnswerRoom}
+use Rattle.program_batch.specs.declared.report.ReportBuffer.{ReportBuffer}
 use Rattle.cmd_extract.specs.Work.{Work, Done, Then, Why, HostCall, Says, Does, LeadsTo, Comes, Ends, answer_in}
 use Rattle.cmd_extract.specs.Progress.{Progress}
 
@@ -23,9 +23,9 @@ unfolding Does
 answers answer host = (refl, inl refl)
 
 -- a call was made
-pub asked : (call : HostCall) (next : Bool → Work) (old now : HostState) (said : Bool) → Says call old said now → LeadsTo (Then call next) old (next said) now
+pub called : (call : HostCall) (next : Bool → Work) (old now : HostState) (said : Bool) → Says call old said now → LeadsTo (Then call next) old (next said) now
 unfolding Does
-asked call next old now said says = λ given new done. inl (said, now, says, done)
+called call next old now said says = λ given new done. inl (said, now, says, done)
 
 -- the host gave the reason why a call was refused
 pub explained : (next : Option Reason → Work) (host : HostState) (reason : Option Reason) → IsWriteReason host.files reason → LeadsTo (Why next) host (next reason) host
@@ -67,19 +67,19 @@ match_not (Ok done) P Q is holds = absurd (let f : false ≡ true = is in cc)
 match_not (Err fault) P Q is holds = holds
 
 -- one part of the way, and then the end
-pub ends_after : {E : Type 0} (result : Result Verdict E) (room : AnswerRoom) (work middle : Work) (old reached now : HostState) → LeadsTo work old middle reached
-    → Ends result room middle reached now → Ends result room work old now
-ends_after (Ok verdict) room work middle old reached now first second = first (Some (answer_in room verdict)) now second
-ends_after (Err fault) room work middle old reached now first second = first None now second
+pub ends_after : {E : Type 0} (result : Result Verdict E) (buffer : ReportBuffer) (work middle : Work) (old reached now : HostState) → LeadsTo work old middle reached
+    → Ends result buffer middle reached now → Ends result buffer work old now
+ends_after (Ok verdict) buffer work middle old reached now first second = first (Some (answer_in buffer verdict)) now second
+ends_after (Err fault) buffer work middle old reached now first second = first None now second
 
 -- the end with a result
-pub ends_with : {E : Type 0} (result : Result Verdict E) (room : AnswerRoom) (answer : Answer) (host : HostState) → IfOk result (λ verdict. answer_in room verdict ≡ answer)
-    → Ends result room (Done answer) host host
+pub ends_with : {E : Type 0} (result : Result Verdict E) (buffer : ReportBuffer) (answer : Answer) (host : HostState) → IfOk result (λ verdict. answer_in buffer verdict ≡ answer)
+    → Ends result buffer (Done answer) host host
 unfolding Does
-ends_with (Ok verdict) room answer host is = (refl, inl (ap (λ (a : Answer). Some a) is))
-ends_with (Err fault) room answer host is = (refl, inr refl)
+ends_with (Ok verdict) buffer answer host is = (refl, inl (ap (λ (a : Answer). Some a) is))
+ends_with (Err fault) buffer answer host is = (refl, inr refl)
 
 -- the end as memory ran out
-pub ends_not : {E : Type 0} (result : Result Verdict E) (room : AnswerRoom) (work : Work) (old now : HostState) → IsErr result → Does work old None now → Ends result room work old now
-ends_not (Ok verdict) room work old now is stopped = absurd (let f : false ≡ true = is in cc)
-ends_not (Err fault) room work old now is stopped = stopped
+pub ends_not : {E : Type 0} (result : Result Verdict E) (buffer : ReportBuffer) (work : Work) (old now : HostState) → IsErr result → Does work old None now → Ends result buffer work old now
+ends_not (Ok verdict) buffer work old now is stopped = absurd (let f : false ≡ true = is in cc)
+ends_not (Err fault) buffer work old now is stopped = stopped

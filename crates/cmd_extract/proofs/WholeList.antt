@@ -22,7 +22,7 @@ use Rattle.cmd_files.specs.Extracts.{as_json, printed_file}
 use Rattle.cmd_files.specs.Selections.{files_and}
 use Rattle.cmd_extract.specs.Setup.{TaskView}
 use Rattle.cmd_extract.specs.Paths.{path_in, with_slash, list_path}
-use Rattle.cmd_extract.specs.Progress.{Progress, waiting_limit, first_progress, portion_of, ending_by, is_part, orphan_stem, host_name, row_name, told_progress, spent_progress, named_progress, written_progress, put_progress}
+use Rattle.cmd_extract.specs.Progress.{Progress, waiting_limit, first_progress, portion_of, ending_by, is_part, orphan_stem, host_name, row_name, reported_progress, spent_progress, named_progress, written_progress, put_progress}
 use Rattle.cmd_extract.specs.declared.list_state.ListState.{ListState}
 use Rattle.cmd_extract.specs.declared.list_state.ListState.TheVariants.{New, Begun, GivenUp}
 use Rattle.cmd_extract.specs.Work.{Work, Rename, Done, Then}
@@ -93,9 +93,9 @@ wait_into task later p tried rest = by_length (nat_lt waiting_limit (length p.li
 file_into : (task : TaskView) (row : Row) (later : List Row) (p : Progress) (portion : Option Portion) → IsTried p.list → ((q : Progress) → IsTried q.list → HasLines task later q)
     → into_list task (file_work task row p portion (λ (q : Progress). wait_work task q (files_work task later)))
     ≡ p.lines ++ (printed_file (as_json task.setup.form) task.name task.dump.image row (path_of task row p.taken portion) ++ lines_of task later p.left (taken_after row p.taken portion))
-unfolding file_work told_progress all_into
+unfolding file_work reported_progress all_into
 file_into task row later p None tried rest =
-    wait_into task later (told_progress task row None p) tried rest
+    wait_into task later (reported_progress task row None p) tried rest
     ∙ append_assoc p.lines (printed_file (as_json task.setup.form) task.name task.dump.image row None) (lines_of task later p.left p.taken)
 file_into task row later p (Some portion) tried rest =
     let file = row_name p.taken row portion.extent in

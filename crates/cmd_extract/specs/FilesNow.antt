@@ -7,9 +7,9 @@ abbrev pub progress_of : Files → Progress
 progress_of files = record {
   left = files.extraction;
   taken = files.taken;
-  printed = files.told.printed.items;
-  lines = files.told.lines.items;
-  list = files.told.list;
-  complaint = files.told.complaint.items;
-  has_failed = files.told.has_failed;
+  printed = files.reported.printed.items;
+  lines = files.reported.lines.items;
+  list = files.reported.list;
+  complaint = files.reported.complaint.items;
+  has_failed = files.reported.has_failed;
 }

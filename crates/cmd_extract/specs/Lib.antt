@@ -4,6 +4,6 @@ pub mod Work
 pub mod Progress
 pub mod Unpacking
 pub mod FilesNow
-pub mod Conduct
+pub mod Effects
 pub mod ListedLines
 pub mod UnpackLaws

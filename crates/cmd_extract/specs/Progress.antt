@@ -97,8 +97,8 @@ abbrev pub portion_of : TaskView → Row → Option Portion
 portion_of task row = row_portion task.setup.with_parts task.dump.image row
 
 -- the line of a file was added, with the path of its host file, or None if no file was written
-unfoldable pub told_progress : TaskView → Row → Option (List ℕ) → Progress → Progress
-told_progress task row path progress = record progress {
+unfoldable pub reported_progress : TaskView → Row → Option (List ℕ) → Progress → Progress
+reported_progress task row path progress = record progress {
   printed = progress.printed ++ printed_file task.setup.form task.name task.dump.image row path;
   lines = progress.lines ++ printed_file (as_json task.setup.form) task.name task.dump.image row path;
 }
@@ -118,11 +118,11 @@ failed_at path reason progress =
 
 -- the file of a row was written under a host name
 abbrev pub written_progress : TaskView → Row → List ℕ → Progress → Progress
-written_progress task row file progress = told_progress task row (Some (path_in task.done file)) progress
+written_progress task row file progress = reported_progress task row (Some (path_in task.done file)) progress
 
 -- the file of a row could not be written
 abbrev pub unwritten_progress : TaskView → Row → List ℕ → Option Reason → Progress → Progress
-unwritten_progress task row file reason progress = told_progress task row None (failed_at (path_in task.partial file) reason progress)
+unwritten_progress task row file reason progress = reported_progress task row None (failed_at (path_in task.partial file) reason progress)
 
 -- the lines that waited are in the list
 abbrev pub put_progress : Progress → Progress

@@ -8,7 +8,7 @@ use Rattle.cmd_extract.specs.Setup.{SetupView, TaskView}
 use Rattle.cmd_extract.specs.Paths.{list_path}
 use Rattle.cmd_extract.specs.Unpacking.{folder_work}
 use Rattle.cmd_extract.specs.ListedLines.{all_into, lines_of}
-use Rattle.cmd_extract.specs.Conduct.{unpacks}
+use Rattle.cmd_extract.specs.Effects.{unpacks}
 
 -- an image with a clean verdict has no line on the standard error, unless complete images are
 -- skipped

@@ -22,7 +22,7 @@ use Rattle.host_names.specs.ImagePlace.{folders_of}
 use Rattle.cmd_extract.specs.Setup.{SetupView, TaskView}
 use Rattle.cmd_extract.specs.Paths.{path_inside, with_slash, done_path, partial_path, path_in, list_in, list_path}
 use Rattle.cmd_extract.specs.Work.{Work, Done, Then, Why, Look, Folder, NewFolder, NewFile, MoreOfFile, Rename}
-use Rattle.cmd_extract.specs.Progress.{Progress, waiting_limit, first_progress, portion_of, row_name, told_progress, spent_progress, named_progress, written_progress, unwritten_progress, put_progress, unput_progress, dropped_progress}
+use Rattle.cmd_extract.specs.Progress.{Progress, waiting_limit, first_progress, portion_of, row_name, reported_progress, spent_progress, named_progress, written_progress, unwritten_progress, put_progress, unput_progress, dropped_progress}
 use Rattle.cmd_extract.specs.declared.list_state.ListState.{ListState}
 use Rattle.cmd_extract.specs.declared.list_state.ListState.TheVariants.{New, Begun, GivenUp}
 
@@ -121,7 +121,7 @@ write_work task row file bytes progress rest = Then (NewFile (path_in task.parti
 
 -- the file of a row is written, if there is something to write; then comes the rest
 unfoldable pub file_work : TaskView → Row → Progress → Option Portion → (Progress → Work) → Work
-file_work task row progress None rest = rest (told_progress task row None progress)
+file_work task row progress None rest = rest (reported_progress task row None progress)
 file_work task row progress (Some portion) rest =
     let file = row_name progress.taken row portion.extent in
     write_work task row file portion.bytes (named_progress file progress) rest

@@ -10,7 +10,7 @@ use Rattle.program_batch.specs.Answers.{Answer}
 use Rattle.program_batch.specs.Reasons.{IsWriteReason}
 use Rattle.program_batch.specs.declared.reason.Reason.{Reason}
 use Rattle.program_batch.specs.declared.report.Verdict.{Verdict}
-use Rattle.program_batch.specs.declared.report.AnswerRoom.{AnswerRoom}
+use Rattle.program_batch.specs.declared.report.ReportBuffer.{ReportBuffer}
 
 -- a call of the host, which returns true or false
 pub data HostCall : Type 0 where
@@ -96,10 +96,10 @@ Comes (Ok done) work old rest now = LeadsTo work old rest now
 Comes (Err fault) work old rest now = Does work old None now
 
 -- the result in the buffer, with this verdict
-abbrev pub answer_in : AnswerRoom → Verdict → Answer
-answer_in room verdict = record { printed = room.printed.items; complaint = room.complaint.items; verdict = verdict }
+abbrev pub answer_in : ReportBuffer → Verdict → Answer
+answer_in buffer verdict = record { printed = buffer.printed.items; complaint = buffer.complaint.items; verdict = verdict }
 
 -- how work ends: with the result in the buffer, or as memory ran out
-abbrev pub Ends : {E : Type 0} → Result Verdict E → AnswerRoom → Work → HostState → HostState → Type 0
-Ends (Ok verdict) room work old new = Does work old (Some (answer_in room verdict)) new
-Ends (Err fault) room work old new = Does work old None new
+abbrev pub Ends : {E : Type 0} → Result Verdict E → ReportBuffer → Work → HostState → HostState → Type 0
+Ends (Ok verdict) buffer work old new = Does work old (Some (answer_in buffer verdict)) new
+Ends (Err fault) buffer work old new = Does work old None new

@@ -14,16 +14,16 @@ use cmd_files::{print_error, print_length};
 use d64_inventory::is_amiss;
 use out_json_csv::{IS_THERE, Scratch, UNREAD, UNWRITTEN};
 use out_messages::{present_line, skipped_line, unread_line, unwritten_line, wrong_length_line};
-use program_batch::{AnswerRoom, Reason, Verdict, push_known_reason};
+use program_batch::{Reason, ReportBuffer, Verdict, push_known_reason};
 use std::alloc::AllocError;
 use std::mem;
 
 /// Takes the printed text out of the buffer, and returns it empty.
-fn emptied(scratch: &Scratch, room: &mut AnswerRoom) -> Vec<u8>
+fn emptied(scratch: &Scratch, buffer: &mut ReportBuffer) -> Vec<u8>
     ensures text { result.items ≡ [] }
-    ensures complaint { room.new.complaint.items ≡ room.old.complaint.items }
+    ensures complaint { buffer.new.complaint.items ≡ buffer.old.complaint.items }
 {
-    let mut printed = mem::replace(&mut room.printed, Vec::new(*scratch.text.allocator()));
+    let mut printed = mem::replace(&mut buffer.printed, Vec::new(*scratch.text.allocator()));
     printed.clear();
     printed
 }
@@ -34,66 +34,66 @@ fn refuse(
     scratch: &mut Scratch,
     name: &[u8],
     error: &str,
-    room: &mut AnswerRoom,
+    buffer: &mut ReportBuffer,
 ) -> Result<Verdict, AllocError>
-    ensures { IfOk result (λ verdict. answer_in room.new verdict ≡ refused_answer setup.now name.now error.now room.old.complaint.items) }
+    ensures { IfOk result (λ verdict. answer_in buffer.new verdict ≡ refused_answer setup.now name.now error.now buffer.old.complaint.items) }
 {
-    let printed = emptied(scratch, room);
-    room.printed = print_error(setup.form, scratch, name, error, printed)?;
+    let printed = emptied(scratch, buffer);
+    buffer.printed = print_error(setup.form, scratch, name, error, printed)?;
     Ok(Verdict::Failed)
 }
 
 /// Puts that a file cannot be read into the buffer.
-pub(crate) fn tell_unread(
+pub(crate) fn report_unread(
     setup: &Setup,
     scratch: &mut Scratch,
     name: &[u8],
-    room: &mut AnswerRoom,
+    buffer: &mut ReportBuffer,
 ) -> Result<Verdict, AllocError>
-    ensures { IfOk result (λ verdict. answer_in room.new verdict ≡ unread_answer setup.now name.now) }
+    ensures { IfOk result (λ verdict. answer_in buffer.new verdict ≡ unread_answer setup.now name.now) }
 {
-    room.complaint.clear();
-    unread_line(&mut room.complaint, name)?;
-    refuse(setup, scratch, name, UNREAD, room)
+    buffer.complaint.clear();
+    unread_line(&mut buffer.complaint, name)?;
+    refuse(setup, scratch, name, UNREAD, buffer)
 }
 
 /// Puts that a file with these bytes is not a dump into the buffer.
-pub(crate) fn tell_wrong_length(
+pub(crate) fn report_wrong_length(
     setup: &Setup,
     scratch: &mut Scratch,
     name: &[u8],
     bytes: &[u8],
-    room: &mut AnswerRoom,
+    buffer: &mut ReportBuffer,
 ) -> Result<Verdict, AllocError>
-    ensures { IfOk result (λ verdict. answer_in room.new verdict ≡ wrong_length setup.now name.now bytes.now) }
+    ensures { IfOk result (λ verdict. answer_in buffer.new verdict ≡ wrong_length setup.now name.now bytes.now) }
 {
-    room.complaint.clear();
-    wrong_length_line(&mut room.complaint, name, bytes)?;
-    let printed = emptied(scratch, room);
-    room.printed = print_length(setup.form, scratch, name, bytes, printed)?;
+    buffer.complaint.clear();
+    wrong_length_line(&mut buffer.complaint, name, bytes)?;
+    let printed = emptied(scratch, buffer);
+    buffer.printed = print_length(setup.form, scratch, name, bytes, printed)?;
     Ok(Verdict::Failed)
 }
 
 /// Puts that a path exists already into the buffer.
-pub(crate) fn tell_present(
+pub(crate) fn report_present(
     task: &Task,
     scratch: &mut Scratch,
     path: &str,
-    room: &mut AnswerRoom,
+    buffer: &mut ReportBuffer,
 ) -> Result<Verdict, AllocError>
-    ensures { IfOk result (λ verdict. answer_in room.new verdict ≡ present_answer task.now path.now) }
+    ensures { IfOk result (λ verdict. answer_in buffer.new verdict ≡ present_answer task.now path.now) }
 {
-    room.complaint.clear();
-    present_line(&mut room.complaint, path.as_bytes())?;
-    refuse(task.setup, scratch, task.name.as_bytes(), IS_THERE, room)
+    buffer.complaint.clear();
+    present_line(&mut buffer.complaint, path.as_bytes())?;
+    refuse(task.setup, scratch, task.name.as_bytes(), IS_THERE, buffer)
 }
 
 /// Puts that the folder of an image is complete, and is skipped, into the buffer.
-pub(crate) fn tell_skipped(task: &Task, room: &mut AnswerRoom) -> Result<Verdict, AllocError>
-    ensures { IfOk result (λ verdict. answer_in room.new verdict ≡ skipped_answer task.now) }
+pub(crate) fn report_skipped(task: &Task, buffer: &mut ReportBuffer) -> Result<Verdict, AllocError>
+    ensures { IfOk result (λ verdict. answer_in buffer.new verdict ≡ skipped_answer task.now) }
 {
-    room.clear();
-    skipped_line(&mut room.complaint, task.done.as_bytes())?;
+    buffer.clear();
+    skipped_line(&mut buffer.complaint, task.done.as_bytes())?;
     Ok(Verdict::Clean)
 }
 
@@ -110,48 +110,48 @@ pub(crate) fn add_unwritten(
 }
 
 /// Puts that a folder cannot be made at a path into the buffer, with the reason, if one is known.
-pub(crate) fn tell_unmade(
+pub(crate) fn report_unmade(
     task: &Task,
     scratch: &mut Scratch,
     path: &str,
     reason: Option<Reason>,
-    room: &mut AnswerRoom,
+    buffer: &mut ReportBuffer,
 ) -> Result<Verdict, AllocError>
-    ensures { IfOk result (λ verdict. answer_in room.new verdict ≡ unmade_answer task.now path.now reason) }
+    ensures { IfOk result (λ verdict. answer_in buffer.new verdict ≡ unmade_answer task.now path.now reason) }
 {
-    room.complaint.clear();
-    add_unwritten(&mut room.complaint, path.as_bytes(), reason)?;
-    refuse(task.setup, scratch, task.name.as_bytes(), UNWRITTEN, room)
+    buffer.complaint.clear();
+    add_unwritten(&mut buffer.complaint, path.as_bytes(), reason)?;
+    refuse(task.setup, scratch, task.name.as_bytes(), UNWRITTEN, buffer)
 }
 
 /// Puts that the folder of an image does not get its name into the buffer, with the reason, if one
 /// is known, after the complaints about its files.
-pub(crate) fn tell_unnamed(
+pub(crate) fn report_unnamed(
     task: &Task,
     reason: Option<Reason>,
     files: &mut Files,
-    room: &mut AnswerRoom,
+    buffer: &mut ReportBuffer,
 ) -> Result<Verdict, AllocError>
-    ensures { IfOk result (λ verdict. answer_in room.new verdict ≡ unnamed_answer task.now (progress_of files.old) reason) }
+    ensures { IfOk result (λ verdict. answer_in buffer.new verdict ≡ unnamed_answer task.now (progress_of files.old) reason) }
 {
-    add_unwritten(&mut files.told.complaint, task.done.as_bytes(), reason)?;
-    mem::swap(&mut room.complaint, &mut files.told.complaint);
+    add_unwritten(&mut files.reported.complaint, task.done.as_bytes(), reason)?;
+    mem::swap(&mut buffer.complaint, &mut files.reported.complaint);
     refuse(
         task.setup,
-        &mut files.told.scratch,
+        &mut files.reported.scratch,
         task.name.as_bytes(),
         UNWRITTEN,
-        room,
+        buffer,
     )
 }
 
 /// Puts all that was printed of the files of an image into the buffer.
-fn tell_files(files: &mut Files, room: &mut AnswerRoom)
-    ensures printed { room.new.printed.items ≡ files.old.told.printed.items }
-    ensures complaint { room.new.complaint.items ≡ files.old.told.complaint.items }
+fn report_files(files: &mut Files, buffer: &mut ReportBuffer)
+    ensures printed { buffer.new.printed.items ≡ files.old.reported.printed.items }
+    ensures complaint { buffer.new.complaint.items ≡ files.old.reported.complaint.items }
 {
-    mem::swap(&mut room.printed, &mut files.told.printed);
-    mem::swap(&mut room.complaint, &mut files.told.complaint);
+    mem::swap(&mut buffer.printed, &mut files.reported.printed);
+    mem::swap(&mut buffer.complaint, &mut files.reported.complaint);
 }
 
 /// Returns the verdict on an image, if no write failed.
@@ -169,18 +169,18 @@ fn verdict_on(task: &Task, extraction: &ContentExtraction) -> Verdict
 }
 
 /// Puts the result of an image whose folder has its name into the buffer.
-pub(crate) fn tell_finished(task: &Task, files: &mut Files, room: &mut AnswerRoom) -> Verdict
-    ensures { answer_in room.new result ≡ finished_answer task.now (progress_of files.old) }
+pub(crate) fn report_finished(task: &Task, files: &mut Files, buffer: &mut ReportBuffer) -> Verdict
+    ensures { answer_in buffer.new result ≡ finished_answer task.now (progress_of files.old) }
 {
     let verdict = verdict_on(task, &files.extraction);
-    tell_files(files, room);
+    report_files(files, buffer);
     verdict
 }
 
 /// Puts the result of an image whose folder keeps its name, since a write failed, into the buffer.
-pub(crate) fn tell_unfinished(files: &mut Files, room: &mut AnswerRoom) -> Verdict
-    ensures { answer_in room.new result ≡ unfinished_answer (progress_of files.old) }
+pub(crate) fn report_unfinished(files: &mut Files, buffer: &mut ReportBuffer) -> Verdict
+    ensures { answer_in buffer.new result ≡ unfinished_answer (progress_of files.old) }
 {
-    tell_files(files, room);
+    report_files(files, buffer);
     Verdict::Failed
 }

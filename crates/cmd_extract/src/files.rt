@@ -18,8 +18,8 @@ use crate::calls::{extend_file, make_file, reason_at};
 use crate::ending::{ending_by, is_part};
 use crate::list_state::ListState;
 use crate::paths::put_path;
+use crate::reporting::Reported;
 use crate::setup::Task;
-use crate::telling::Told;
 use cmd_extract_contents::{ContentExtraction, Extent};
 use cmd_files::print_after;
 use d64_files::name_in;
@@ -45,7 +45,7 @@ const WAITING_BYTES: usize = 65_536;
 pub(crate) struct Files {
     pub(crate) extraction: ContentExtraction,
     pub(crate) taken: TakenNames,
-    pub(crate) told: Told,
+    pub(crate) reported: Reported,
     /// The bytes of a file.
     pub(crate) bytes: Vec<u8>,
     /// The name of a file in text form.
@@ -133,7 +133,7 @@ impl Files {
         Files {
             extraction: ContentExtraction::new(),
             taken: TakenNames::new(alloc),
-            told: Told::new(alloc),
+            reported: Reported::new(alloc),
             bytes: Vec::new(alloc),
             text: Vec::new(alloc),
             name: Vec::new(alloc),
@@ -147,20 +147,20 @@ impl Files {
     {
         self.extraction = ContentExtraction::new();
         self.taken.clear();
-        self.told.begin(task)
+        self.reported.begin(task)
     }
 
     /// Adds the line of a file that was written under its host name.
-    fn tell_written(&mut self, task: &Task, row: &Row) -> Result<(), AllocError>
+    fn report_written(&mut self, task: &Task, row: &Row) -> Result<(), AllocError>
         ensures { OnOk result (progress_of self.new ≡ written_progress task.now row.now self.old.name.items (progress_of self.old)) }
     {
         put_path(&mut self.path, &task.done, &self.name)?;
-        self.told.tell(task, row, Some(&self.path))
+        self.reported.report(task, row, Some(&self.path))
     }
 
     /// Adds the line of a file that could not be written under that name, with the reason, if one
     /// is known.
-    fn tell_unwritten(
+    fn report_unwritten(
         &mut self,
         task: &Task,
         row: &Row,
@@ -169,8 +169,8 @@ impl Files {
         ensures { OnOk result (progress_of self.new ≡ unwritten_progress task.now row.now self.old.name.items reason (progress_of self.old)) }
     {
         put_path(&mut self.path, &task.partial, &self.name)?;
-        self.told.tell_failure(&self.path, reason)?;
-        self.told.tell(task, row, None)
+        self.reported.report_failure(&self.path, reason)?;
+        self.reported.report(task, row, None)
     }
 
     /// Writes a file whose bytes and host name are known.
@@ -186,10 +186,10 @@ impl Files {
     {
         put_path(&mut self.path, &task.partial, &self.name)?;
         if make_file(host, &self.path, &self.bytes) {
-            self.tell_written(task, row)
+            self.report_written(task, row)
         } else {
             let reason = reason_at(host, &self.path);
-            self.tell_unwritten(task, row, reason)
+            self.report_unwritten(task, row, reason)
         }
     }
 
@@ -214,7 +214,7 @@ impl Files {
                 name_file(&mut self.taken, &mut self.text, row, extent, &mut self.name)?;
                 self.write_file(task, row, host)
             }
-            None => self.told.tell(task, row, None),
+            None => self.reported.report(task, row, None),
         }
     }
 
@@ -224,34 +224,34 @@ impl Files {
             (after_putting task (progress_of self.old) rest is_put) (H.state host.now)
             (rest (progress_of self.new)) (H.state host.now) }
     {
-        self.told.lines.clear();
+        self.reported.lines.clear();
         if is_put {
-            self.told.list = ListState::Begun;
+            self.reported.list = ListState::Begun;
             return Ok(());
         }
-        self.told.list = ListState::GivenUp;
+        self.reported.list = ListState::GivenUp;
         let reason = reason_at(host, &self.path);
-        self.told.tell_failure(&self.path, reason)
+        self.reported.report_failure(&self.path, reason)
     }
 
     /// Writes the lines that wait to the list of the files, which is made with the first of them.
     pub(crate) fn put_lines<H: Host>(&mut self, task: &Task, host: &mut H) -> Result<(), AllocError>
         ensures { (rest : Progress → Work) → Comes result
-            (put_work self.old.told.list task.now (progress_of self.old) rest) (H.state host.old)
+            (put_work self.old.reported.list task.now (progress_of self.old) rest) (H.state host.old)
             (rest (progress_of self.new)) (H.state host.new) }
     {
         put_path(&mut self.path, &task.partial, LIST_NAME)?;
-        match self.told.list {
+        match self.reported.list {
             ListState::New => {
-                let is_put = make_file(host, &self.path, &self.told.lines);
+                let is_put = make_file(host, &self.path, &self.reported.lines);
                 self.end_piece(is_put, host)
             }
             ListState::Begun => {
-                let is_put = extend_file(host, &self.path, &self.told.lines);
+                let is_put = extend_file(host, &self.path, &self.reported.lines);
                 self.end_piece(is_put, host)
             }
             ListState::GivenUp => {
-                self.told.lines.clear();
+                self.reported.lines.clear();
                 Ok(())
             }
         }
@@ -263,7 +263,7 @@ impl Files {
             (wait_work task.now (progress_of self.old) rest) (H.state host.old)
             (rest (progress_of self.new)) (H.state host.new) }
     {
-        if self.told.lines.len() > WAITING_BYTES {
+        if self.reported.lines.len() > WAITING_BYTES {
             return self.put_lines(task, host);
         }
         Ok(())
@@ -307,9 +307,9 @@ impl Files {
         ensures { OnOk result (progress_of self.new ≡ closed_progress task.now (progress_of self.old)) }
     {
         let setup = task.setup;
-        print_after(setup.form.format, task.all, &mut self.told.printed)?;
+        print_after(setup.form.format, task.all, &mut self.reported.printed)?;
         if self.extraction.is_over() {
-            too_much_line(&mut self.told.complaint, task.name.as_bytes())?;
+            too_much_line(&mut self.reported.complaint, task.name.as_bytes())?;
         }
         Ok(())
     }

@@ -9,9 +9,9 @@ mod files;
 mod folders;
 mod list_state;
 mod paths;
+mod reporting;
 mod setup;
 mod task;
-mod telling;
 pub mod unpack_laws;
 mod unpacker;
 

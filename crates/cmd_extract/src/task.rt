@@ -7,7 +7,8 @@ ghost use Rattle.cmd_extract.specs.FilesNow.{progress_of};
 ghost use Rattle.cmd_extract.specs.Unpacking.{name_work, unmade_work, folder_work, folders_work, folder_after, present_work, task_work_with};
 
 use crate::answering::{
-    tell_finished, tell_present, tell_skipped, tell_unfinished, tell_unmade, tell_unnamed,
+    report_finished, report_present, report_skipped, report_unfinished, report_unmade,
+    report_unnamed,
 };
 use crate::calls::{is_there, make_folder, reason_at, rename};
 use crate::files::Files;
@@ -15,7 +16,7 @@ use crate::folders::have_folders;
 use crate::paths::{inside, list_in};
 use crate::setup::Task;
 use host_storage::Host;
-use program_batch::{AnswerRoom, Verdict};
+use program_batch::{ReportBuffer, Verdict};
 use std::alloc::AllocError;
 
 impl<'a, 'd> Task<'a, 'd> {
@@ -24,18 +25,18 @@ impl<'a, 'd> Task<'a, 'd> {
         &self,
         files: &mut Files,
         host: &mut H,
-        room: &mut AnswerRoom,
+        buffer: &mut ReportBuffer,
     ) -> Result<Verdict, AllocError>
-        ensures { Ends result room.new (name_work self.now (progress_of files.old)) (H.state host.old) (H.state host.new) }
+        ensures { Ends result buffer.new (name_work self.now (progress_of files.old)) (H.state host.old) (H.state host.new) }
     {
-        if files.told.has_failed {
-            return Ok(tell_unfinished(files, room));
+        if files.reported.has_failed {
+            return Ok(report_unfinished(files, buffer));
         }
         if rename(host, &self.partial, &self.done) {
-            Ok(tell_finished(self, files, room))
+            Ok(report_finished(self, files, buffer))
         } else {
             let reason = reason_at(host, self.done.as_bytes());
-            tell_unnamed(self, reason, files, room)
+            report_unnamed(self, reason, files, buffer)
         }
     }
 
@@ -46,18 +47,18 @@ impl<'a, 'd> Task<'a, 'd> {
         path: &str,
         files: &mut Files,
         host: &H,
-        room: &mut AnswerRoom,
+        buffer: &mut ReportBuffer,
     ) -> Result<Verdict, AllocError>
-        ensures { Ends result room.new (unmade_work self.now path.now) (H.state host.now) (H.state host.now) }
+        ensures { Ends result buffer.new (unmade_work self.now path.now) (H.state host.now) (H.state host.now) }
     {
         let setup = self.setup;
         let is_into_there = is_there(host, &setup.into);
         let reason = reason_at(host, path.as_bytes());
-        let scratch = &mut files.told.scratch;
+        let scratch = &mut files.reported.scratch;
         if is_into_there {
-            tell_unmade(self, scratch, path, reason, room)
+            report_unmade(self, scratch, path, reason, buffer)
         } else {
-            tell_unmade(self, scratch, &setup.into, reason, room)
+            report_unmade(self, scratch, &setup.into, reason, buffer)
         }
     }
 
@@ -66,17 +67,17 @@ impl<'a, 'd> Task<'a, 'd> {
         &self,
         files: &mut Files,
         host: &mut H,
-        room: &mut AnswerRoom,
+        buffer: &mut ReportBuffer,
     ) -> Result<Verdict, AllocError>
-        ensures { Ends result room.new (folder_work self.now) (H.state host.old) (H.state host.new) }
+        ensures { Ends result buffer.new (folder_work self.now) (H.state host.old) (H.state host.new) }
     {
         if !make_folder(host, &self.partial) {
-            return self.end_unmade(&self.partial, files, host, room);
+            return self.end_unmade(&self.partial, files, host, buffer);
         }
         files.unpack_files(self, host)?;
         files.close(self)?;
         files.put_lines(self, host)?;
-        self.name_folder(files, host, room)
+        self.name_folder(files, host, buffer)
     }
 
     /// Makes the folders in which the image's folder lies, and then that folder.
@@ -85,15 +86,15 @@ impl<'a, 'd> Task<'a, 'd> {
         folders: &[&str],
         files: &mut Files,
         host: &mut H,
-        room: &mut AnswerRoom,
+        buffer: &mut ReportBuffer,
     ) -> Result<Verdict, AllocError>
-        ensures { Ends result room.new (folders_work (folder_after self.now) (path_inside self.now.setup.into) (map (λ folder. folder.now) folders.now)) (H.state host.old) (H.state host.new) }
+        ensures { Ends result buffer.new (folders_work (folder_after self.now) (path_inside self.now.setup.into) (map (λ folder. folder.now) folders.now)) (H.state host.old) (H.state host.new) }
     {
         let setup = self.setup;
         let start = inside(self.alloc, &setup.into)?;
         match have_folders(host, start, folders)? {
-            Some(path) => self.end_unmade(&path, files, host, room),
-            None => self.unpack_folder(files, host, room),
+            Some(path) => self.end_unmade(&path, files, host, buffer),
+            None => self.unpack_folder(files, host, buffer),
         }
     }
 
@@ -102,19 +103,19 @@ impl<'a, 'd> Task<'a, 'd> {
         &self,
         files: &mut Files,
         host: &H,
-        room: &mut AnswerRoom,
+        buffer: &mut ReportBuffer,
     ) -> Result<Verdict, AllocError>
-        ensures { Ends result room.new (present_work self.now) (H.state host.now) (H.state host.now) }
+        ensures { Ends result buffer.new (present_work self.now) (H.state host.now) (H.state host.now) }
     {
         let setup = self.setup;
         if !setup.skips {
-            return tell_present(self, &mut files.told.scratch, &self.done, room);
+            return report_present(self, &mut files.reported.scratch, &self.done, buffer);
         }
         let list = list_in(self.alloc, &self.done)?;
         if is_there(host, &list) {
-            tell_skipped(self, room)
+            report_skipped(self, buffer)
         } else {
-            tell_present(self, &mut files.told.scratch, &self.done, room)
+            report_present(self, &mut files.reported.scratch, &self.done, buffer)
         }
     }
 
@@ -124,16 +125,16 @@ impl<'a, 'd> Task<'a, 'd> {
         folders: &[&str],
         files: &mut Files,
         host: &mut H,
-        room: &mut AnswerRoom,
+        buffer: &mut ReportBuffer,
     ) -> Result<Verdict, AllocError>
-        ensures { Ends result room.new (task_work_with self.now (map (λ folder. folder.now) folders.now)) (H.state host.old) (H.state host.new) }
+        ensures { Ends result buffer.new (task_work_with self.now (map (λ folder. folder.now) folders.now)) (H.state host.old) (H.state host.new) }
     {
         if is_there(host, &self.done) {
-            return self.end_present(files, host, room);
+            return self.end_present(files, host, buffer);
         }
         if is_there(host, &self.partial) {
-            return tell_present(self, &mut files.told.scratch, &self.partial, room);
+            return report_present(self, &mut files.reported.scratch, &self.partial, buffer);
         }
-        self.unpack_below(folders, files, host, room)
+        self.unpack_below(folders, files, host, buffer)
     }
 }

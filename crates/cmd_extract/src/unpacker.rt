@@ -4,7 +4,7 @@ ghost use Rattle.d64_g64.specs.DumpOf.{dump_of};
 ghost use Rattle.cmd_extract.specs.Work.{Ends};
 ghost use Rattle.cmd_extract.specs.Unpacking.{task_work, task_of, unpacking};
 
-use crate::answering::{tell_unread, tell_wrong_length};
+use crate::answering::{report_unread, report_wrong_length};
 use crate::files::Files;
 use crate::paths::{done_path, partial_path};
 use crate::setup::{Setup, Task};
@@ -14,7 +14,7 @@ use d64_image::Image;
 use d64_survey::{Dump, DumpFault, Fault, Inspection, ReadError};
 use host_names::ImagePlace;
 use host_storage::Host;
-use program_batch::{AnswerRoom, Clerk, Verdict};
+use program_batch::{FileTask, ReportBuffer, Verdict};
 use std::alloc::{AllocError, Global};
 use std::mem;
 
@@ -49,10 +49,10 @@ impl Unpacker {
         &mut self,
         name: &str,
         host: &mut H,
-        room: &mut AnswerRoom,
+        buffer: &mut ReportBuffer,
     ) -> Result<Verdict, AllocError>
         ensures setup { self.new.setup ≡ self.old.setup }
-        ensures done { Ends result room.new (task_work (task_of self.old.setup name.now self.old.dump)) (H.state host.old) (H.state host.new) }
+        ensures done { Ends result buffer.new (task_work (task_of self.old.setup name.now self.old.dump)) (H.state host.old) (H.state host.new) }
     {
         let all = Inspection::of(&self.dump, &mut self.faults, &mut self.errors)?;
         let place = ImagePlace::of(self.alloc, name)?;
@@ -66,7 +66,7 @@ impl Unpacker {
             done,
             partial,
         };
-        task.unpack(place.folders.as_slice(), &mut self.files, host, room)
+        task.unpack(place.folders.as_slice(), &mut self.files, host, buffer)
     }
 
     /// Unpacks the file with this name and these bytes, or reports that it cannot be read if there
@@ -76,47 +76,63 @@ impl Unpacker {
         name: &[u8],
         bytes: Option<&[u8]>,
         host: &mut H,
-        room: &mut AnswerRoom,
+        buffer: &mut ReportBuffer,
     ) -> Result<Verdict, AllocError>
         ensures setup { self.new.setup ≡ self.old.setup }
-        ensures done { Ends result room.new (unpacking self.old.setup name.now (option_map (λ bytes. bytes.now) bytes.entry)) (H.state host.old) (H.state host.new) }
+        ensures done { Ends result buffer.new (unpacking self.old.setup name.now (option_map (λ bytes. bytes.now) bytes.entry)) (H.state host.old) (H.state host.new) }
     {
         let bytes = match bytes {
             Some(bytes) => bytes,
-            None => return tell_unread(&self.setup, &mut self.files.told.scratch, name, room),
+            None => return report_unread(
+                &self.setup,
+                &mut self.files.reported.scratch,
+                name,
+                buffer,
+            ),
         };
         let path = match str::from_utf8(name) {
             Ok(path) => path,
-            Err(_) => return tell_unread(&self.setup, &mut self.files.told.scratch, name, room),
+            Err(_) => return report_unread(
+                &self.setup,
+                &mut self.files.reported.scratch,
+                name,
+                buffer,
+            ),
         };
         match refill_from(&mut self.dump, self.alloc, bytes) {
-            Ok(()) => self.unpack_dump(path, host, room),
+            Ok(()) => self.unpack_dump(path, host, buffer),
             Err(DumpFault::WrongLength(_)) => {
-                tell_wrong_length(&self.setup, &mut self.files.told.scratch, name, bytes, room)
+                report_wrong_length(
+                    &self.setup,
+                    &mut self.files.reported.scratch,
+                    name,
+                    bytes,
+                    buffer,
+                )
             }
             Err(DumpFault::Memory(error)) => Err(error),
         }
     }
 }
 
-impl Clerk for Unpacker {
+impl FileTask for Unpacker {
     ghost use Rattle.cmd_extract.specs.Setup.{SetupView};
-    ghost use Rattle.cmd_extract.specs.Conduct.{unpacks};
+    ghost use Rattle.cmd_extract.specs.Effects.{unpacks};
     ghost use Rattle.cmd_files.specs.Extracts.{extract_heading};
 
-    ghost Manner = { SetupView };
+    ghost Options = { SetupView };
 
-    ghost manner = { λ unpacker. unpacker.setup };
+    ghost options = { λ unpacker. unpacker.setup };
 
-    ghost conduct = { unpacks };
+    ghost effects = { unpacks };
 
     ghost heading = { λ unpacker. extract_heading unpacker.setup.form };
 
-    fn head(&mut self, room: &mut AnswerRoom) -> Result<(), AllocError> {
-        room.clear();
-        let out = mem::replace(&mut room.printed, Vec::new(self.alloc));
+    fn head(&mut self, buffer: &mut ReportBuffer) -> Result<(), AllocError> {
+        buffer.clear();
+        let out = mem::replace(&mut buffer.printed, Vec::new(self.alloc));
         let form = self.setup.form;
-        room.printed = print_extract_heading(form, &mut self.files.told.scratch, out)?;
+        buffer.printed = print_extract_heading(form, &mut self.files.reported.scratch, out)?;
         Ok(())
     }
 
@@ -125,8 +141,8 @@ impl Clerk for Unpacker {
         name: &[u8],
         bytes: Option<&[u8]>,
         host: &mut H,
-        room: &mut AnswerRoom,
+        buffer: &mut ReportBuffer,
     ) -> Result<Verdict, AllocError> {
-        self.unpack(name, bytes, host, room)
+        self.unpack(name, bytes, host, buffer)
     }
 }

@@ -5,7 +5,7 @@ use Rattle.d64_image.specs.Disk.{Bytes}
 use Rattle.d64_leftovers.specs.Rows.{is_deleted, is_orphan}
 use Rattle.d64_leftovers.specs.declared.row.Row.{Row}
 use Rattle.d64_leftovers.specs.declared.row.Row.TheVariants.{File, Deleted, Orphan}
-use Rattle.program_arguments.specs.declared.asked.Leftovers.{Leftovers}
+use Rattle.program_arguments.specs.declared.jobs.Leftovers.{Leftovers}
 use Rattle.out_json_csv.specs.Rows.{truth_text, host_field}
 use Rattle.cmd_files.specs.FileRow.{file_fields}
 use Rattle.cmd_files.specs.DeletedRow.{deleted_fields}

@@ -4,7 +4,7 @@ use Rattle.std.specs.Option.{option_map_or}
 use Rattle.json.specs.Json.{Json, null}
 use Rattle.d64_image.specs.Disk.{Disk, Bytes}
 use Rattle.d64_leftovers.specs.declared.row.Row.{Row}
-use Rattle.program_arguments.specs.declared.asked.Leftovers.{Leftovers}
+use Rattle.program_arguments.specs.declared.jobs.Leftovers.{Leftovers}
 use Rattle.out_json_csv.specs.Rows.{host_field}
 use Rattle.out_json_csv.specs.Values.{Field, object_of}
 use Rattle.out_json_csv.specs.Unanswered.{host_value}

@@ -2,9 +2,9 @@
 use Rattle.std.specs.Prelude.{ℕ, List, [], Option, codes}
 use Rattle.d64_image.specs.Disk.{Disk, Bytes}
 use Rattle.d64_leftovers.specs.declared.row.Row.{Row}
-use Rattle.program_arguments.specs.declared.asked.Format.{Format}
-use Rattle.program_arguments.specs.declared.asked.Format.TheVariants.{Text, Json, Csv}
-use Rattle.program_arguments.specs.declared.asked.Leftovers.{Leftovers}
+use Rattle.program_arguments.specs.declared.jobs.Format.{Format}
+use Rattle.program_arguments.specs.declared.jobs.Format.TheVariants.{Text, Json, Csv}
+use Rattle.program_arguments.specs.declared.jobs.Leftovers.{Leftovers}
 use Rattle.out_json_csv.specs.Values.{line_of}
 use Rattle.out_json_csv.specs.Unanswered.{unanswered_object, no_dump_object, no_dump_error}
 use Rattle.cmd_files.specs.declared.form.Form.{Form}

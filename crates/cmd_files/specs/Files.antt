@@ -7,9 +7,9 @@ use Rattle.d64_leftovers.specs.Rows.{rows}
 use Rattle.d64_leftovers.specs.declared.row.Row.{Row}
 use Rattle.d64_leftovers.specs.declared.selection.Selection.{Selection}
 use Rattle.d64_inventory.specs.ListingAmiss.{is_listing_amiss}
-use Rattle.program_arguments.specs.declared.asked.Format.{Format}
-use Rattle.program_arguments.specs.declared.asked.Format.TheVariants.{Text, Json, Csv}
-use Rattle.program_arguments.specs.declared.asked.Leftovers.{Leftovers}
+use Rattle.program_arguments.specs.declared.jobs.Format.{Format}
+use Rattle.program_arguments.specs.declared.jobs.Format.TheVariants.{Text, Json, Csv}
+use Rattle.program_arguments.specs.declared.jobs.Leftovers.{Leftovers}
 use Rattle.out_json_csv.specs.Values.{line_of}
 use Rattle.d64_g64.specs.DumpOf.{dump_of}
 use Rattle.out_json_csv.specs.Unanswered.{unread_object, no_dump_object, no_dump_error}

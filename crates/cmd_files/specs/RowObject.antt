@@ -5,7 +5,7 @@ use Rattle.d64_image.specs.Disk.{Bytes}
 use Rattle.d64_leftovers.specs.Rows.{is_deleted, is_orphan}
 use Rattle.d64_leftovers.specs.declared.row.Row.{Row}
 use Rattle.d64_leftovers.specs.declared.row.Row.TheVariants.{File, Deleted, Orphan}
-use Rattle.program_arguments.specs.declared.asked.Leftovers.{Leftovers}
+use Rattle.program_arguments.specs.declared.jobs.Leftovers.{Leftovers}
 use Rattle.out_json_csv.specs.Values.{Field, object_of, numeral}
 use Rattle.out_json_csv.specs.Unanswered.{image_member}
 use Rattle.cmd_files.specs.FileObject.{file_members}

@@ -1,6 +1,6 @@
 -- Which rows of a dump are printed together.
 use Rattle.std.specs.Prelude.{true, false}
-use Rattle.program_arguments.specs.declared.asked.Leftovers.{Leftovers}
+use Rattle.program_arguments.specs.declared.jobs.Leftovers.{Leftovers}
 use Rattle.d64_leftovers.specs.declared.selection.Selection.{Selection}
 
 -- the rows of files alone, those of deleted files alone, and those of orphans alone

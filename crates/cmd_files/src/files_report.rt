@@ -13,7 +13,7 @@ use d64_inventory::is_amiss;
 use d64_survey::{Dump, DumpFault, Fault, Inspection, ReadError};
 use out_json_csv::Scratch;
 use out_messages::{unread_line, wrong_length_line};
-use program_batch::{AnswerRoom, Report, Verdict};
+use program_batch::{Report, ReportBuffer, Verdict};
 use std::alloc::{AllocError, Global};
 use std::mem;
 
@@ -44,15 +44,15 @@ impl FilesReport {
     }
 
     /// Puts what is printed of the dump that was read into the buffer, and returns the verdict.
-    fn tell_dump(&mut self, name: &[u8], room: &mut AnswerRoom) -> Result<Verdict, AllocError>
+    fn report_dump(&mut self, name: &[u8], buffer: &mut ReportBuffer) -> Result<Verdict, AllocError>
         ensures form { self.new.form ≡ self.old.form }
-        ensures answered { room.old.printed.items ≡ [] → room.old.complaint.items ≡ [] → (bytes : List ℕ) → IfOk result (λ verdict.
-            record { printed = room.new.printed.items; complaint = room.new.complaint.items; verdict = verdict }
+        ensures answered { buffer.old.printed.items ≡ [] → buffer.old.complaint.items ≡ [] → (bytes : List ℕ) → IfOk result (λ verdict.
+            record { printed = buffer.new.printed.items; complaint = buffer.new.complaint.items; verdict = verdict }
             ≡ answer_of self.old.form name.now bytes (Some self.old.dump)) }
     {
         let all = Inspection::of(&self.dump, &mut self.faults, &mut self.errors)?;
-        let out = mem::replace(&mut room.printed, Vec::new(self.alloc));
-        room.printed = print_dump(self.form, &mut self.scratch, name, &all, out)?;
+        let out = mem::replace(&mut buffer.printed, Vec::new(self.alloc));
+        buffer.printed = print_dump(self.form, &mut self.scratch, name, &all, out)?;
         if is_amiss(&all) {
             Ok(Verdict::Amiss)
         } else {
@@ -61,33 +61,37 @@ impl FilesReport {
     }
 
     /// Puts what is printed of a file that cannot be read into the buffer.
-    fn tell_unread(&mut self, name: &[u8], room: &mut AnswerRoom) -> Result<Verdict, AllocError>
+    fn report_unread(
+        &mut self,
+        name: &[u8],
+        buffer: &mut ReportBuffer,
+    ) -> Result<Verdict, AllocError>
         ensures form { self.new.form ≡ self.old.form }
-        ensures answered { room.old.printed.items ≡ [] → room.old.complaint.items ≡ [] → IfOk result (λ verdict.
-            record { printed = room.new.printed.items; complaint = room.new.complaint.items; verdict = verdict }
+        ensures answered { buffer.old.printed.items ≡ [] → buffer.old.complaint.items ≡ [] → IfOk result (λ verdict.
+            record { printed = buffer.new.printed.items; complaint = buffer.new.complaint.items; verdict = verdict }
             ≡ files_rule self.old.form name.now None) }
     {
-        let out = mem::replace(&mut room.printed, Vec::new(self.alloc));
-        room.printed = print_unread(self.form, &mut self.scratch, name, out)?;
-        unread_line(&mut room.complaint, name)?;
+        let out = mem::replace(&mut buffer.printed, Vec::new(self.alloc));
+        buffer.printed = print_unread(self.form, &mut self.scratch, name, out)?;
+        unread_line(&mut buffer.complaint, name)?;
         Ok(Verdict::Failed)
     }
 
     /// Puts what is printed of a file whose length is not a dump's into the buffer.
-    fn tell_wrong_length(
+    fn report_wrong_length(
         &mut self,
         name: &[u8],
         bytes: &[u8],
-        room: &mut AnswerRoom,
+        buffer: &mut ReportBuffer,
     ) -> Result<Verdict, AllocError>
         ensures form { self.new.form ≡ self.old.form }
-        ensures answered { room.old.printed.items ≡ [] → room.old.complaint.items ≡ [] → IfOk result (λ verdict.
-            record { printed = room.new.printed.items; complaint = room.new.complaint.items; verdict = verdict }
+        ensures answered { buffer.old.printed.items ≡ [] → buffer.old.complaint.items ≡ [] → IfOk result (λ verdict.
+            record { printed = buffer.new.printed.items; complaint = buffer.new.complaint.items; verdict = verdict }
             ≡ answer_of self.old.form name.now bytes.now None) }
     {
-        let out = mem::replace(&mut room.printed, Vec::new(self.alloc));
-        room.printed = print_wrong_length(self.form, &mut self.scratch, name, bytes, out)?;
-        wrong_length_line(&mut room.complaint, name, bytes)?;
+        let out = mem::replace(&mut buffer.printed, Vec::new(self.alloc));
+        buffer.printed = print_wrong_length(self.form, &mut self.scratch, name, bytes, out)?;
+        wrong_length_line(&mut buffer.complaint, name, bytes)?;
         Ok(Verdict::Failed)
     }
 }
@@ -99,10 +103,10 @@ impl Report for FilesReport {
 
     ghost quiet = { λ report. files_rule-is_quiet report.form };
 
-    fn head(&mut self, room: &mut AnswerRoom) -> Result<(), AllocError> {
-        room.clear();
-        let out = mem::replace(&mut room.printed, Vec::new(self.alloc));
-        room.printed = print_heading(self.form, &mut self.scratch, out)?;
+    fn head(&mut self, buffer: &mut ReportBuffer) -> Result<(), AllocError> {
+        buffer.clear();
+        let out = mem::replace(&mut buffer.printed, Vec::new(self.alloc));
+        buffer.printed = print_heading(self.form, &mut self.scratch, out)?;
         Ok(())
     }
 
@@ -110,15 +114,15 @@ impl Report for FilesReport {
         &mut self,
         name: &[u8],
         bytes: Option<&[u8]>,
-        room: &mut AnswerRoom,
+        buffer: &mut ReportBuffer,
     ) -> Result<Verdict, AllocError> {
-        room.clear();
+        buffer.clear();
         let Some(bytes) = bytes else {
-            return self.tell_unread(name, room);
+            return self.report_unread(name, buffer);
         };
         match refill_from(&mut self.dump, self.alloc, bytes) {
-            Ok(()) => self.tell_dump(name, room),
-            Err(DumpFault::WrongLength(_)) => self.tell_wrong_length(name, bytes, room),
+            Ok(()) => self.report_dump(name, buffer),
+            Err(DumpFault::WrongLength(_)) => self.report_wrong_length(name, bytes, buffer),
             Err(DumpFault::Memory(error)) => Err(error),
         }
     }

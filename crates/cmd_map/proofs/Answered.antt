@@ -7,7 +7,7 @@ use Rattle.program_batch.specs.Answers.{Answer}
 use Rattle.program_batch.specs.declared.report.Verdict.{Verdict}
 use Rattle.out_messages.specs.FaultLines.{wrong_length_line}
 use Rattle.d64_g64.specs.DumpOf.{dump_of}
-use Rattle.program_arguments.specs.declared.asked.PictureForm.{PictureForm}
+use Rattle.program_arguments.specs.declared.jobs.PictureForm.{PictureForm}
 use Rattle.cmd_map.specs.Pictures.{answer_of, failed_with, map_rule}
 
 -- bytes that are a dump have its result

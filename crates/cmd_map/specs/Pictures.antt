@@ -7,8 +7,8 @@ use Rattle.out_messages.specs.FaultLines.{unread_line, wrong_length_line}
 use Rattle.program_batch.specs.Answers.{Answer, Rule}
 use Rattle.program_batch.specs.declared.report.Verdict.TheVariants.{Clean, Amiss, Failed}
 use Rattle.d64_g64.specs.DumpOf.{dump_of}
-use Rattle.program_arguments.specs.declared.asked.PictureForm.{PictureForm}
-use Rattle.program_arguments.specs.declared.asked.PictureForm.TheVariants.{Text, Svg}
+use Rattle.program_arguments.specs.declared.jobs.PictureForm.{PictureForm}
+use Rattle.program_arguments.specs.declared.jobs.PictureForm.TheVariants.{Text, Svg}
 use Rattle.cmd_map.specs.MapText.{map_text}
 use Rattle.cmd_map.specs.Svg.{svg_of}
 

@@ -6,7 +6,7 @@ use Rattle.out_messages.specs.FaultLines.{wrong_length_line}
 use Rattle.program_batch.specs.Answers.{IsQuiet}
 use Rattle.program_batch.specs.declared.report.Verdict.TheVariants.{Clean}
 use Rattle.d64_g64.specs.DumpOf.{dump_of}
-use Rattle.program_arguments.specs.declared.asked.PictureForm.{PictureForm}
+use Rattle.program_arguments.specs.declared.jobs.PictureForm.{PictureForm}
 use Rattle.cmd_map.specs.Pictures.{answer_of, failed_with, map_rule}
 
 -- the result for a dump has no complaint, and a result with a complaint is a failure

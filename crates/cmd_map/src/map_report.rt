@@ -10,7 +10,7 @@ use d64_image::Image;
 use d64_survey::{Dump, DumpFault, Fault, Inspection, ReadError};
 use out_messages::{unread_line, wrong_length_line};
 use program_arguments::PictureForm;
-use program_batch::{AnswerRoom, Report, Verdict};
+use program_batch::{Report, ReportBuffer, Verdict};
 use std::alloc::{AllocError, Global};
 
 /// The report of `map`, with the buffers that it uses for one file after another.
@@ -53,13 +53,13 @@ impl MapReport {
     }
 
     /// Puts the map of the dump that was read into the buffer, and returns the verdict.
-    fn tell_dump(&mut self, name: &[u8], room: &mut AnswerRoom) -> Result<Verdict, AllocError>
+    fn report_dump(&mut self, name: &[u8], buffer: &mut ReportBuffer) -> Result<Verdict, AllocError>
         ensures form { self.new.form ≡ self.old.form }
-        ensures answered { room.old.printed.items ≡ [] → room.old.complaint.items ≡ [] → IfOk result (λ verdict.
-            record { printed = room.new.printed.items; complaint = room.new.complaint.items; verdict = verdict } ≡ answer_of self.old.form name.now self.old.dump) }
+        ensures answered { buffer.old.printed.items ≡ [] → buffer.old.complaint.items ≡ [] → IfOk result (λ verdict.
+            record { printed = buffer.new.printed.items; complaint = buffer.new.complaint.items; verdict = verdict } ≡ answer_of self.old.form name.now self.old.dump) }
     {
         let all = Inspection::of(&self.dump, &mut self.faults, &mut self.errors)?;
-        push_picture(&mut room.printed, self.form, name, &all)?;
+        push_picture(&mut buffer.printed, self.form, name, &all)?;
         if all.is_amiss() {
             Ok(Verdict::Amiss)
         } else {
@@ -75,8 +75,8 @@ impl Report for MapReport {
 
     ghost quiet = { λ report. map_rule-is_quiet report.form };
 
-    fn head(&mut self, room: &mut AnswerRoom) -> Result<(), AllocError> {
-        room.clear();
+    fn head(&mut self, buffer: &mut ReportBuffer) -> Result<(), AllocError> {
+        buffer.clear();
         Ok(())
     }
 
@@ -84,17 +84,17 @@ impl Report for MapReport {
         &mut self,
         name: &[u8],
         bytes: Option<&[u8]>,
-        room: &mut AnswerRoom,
+        buffer: &mut ReportBuffer,
     ) -> Result<Verdict, AllocError> {
-        room.clear();
+        buffer.clear();
         let Some(bytes) = bytes else {
-            unread_line(&mut room.complaint, name)?;
+            unread_line(&mut buffer.complaint, name)?;
             return Ok(Verdict::Failed);
         };
         match refill_from(&mut self.dump, self.alloc, bytes) {
-            Ok(()) => self.tell_dump(name, room),
+            Ok(()) => self.report_dump(name, buffer),
             Err(DumpFault::WrongLength(_)) => {
-                wrong_length_line(&mut room.complaint, name, bytes)?;
+                wrong_length_line(&mut buffer.complaint, name, bytes)?;
                 Ok(Verdict::Failed)
             }
             Err(DumpFault::Memory(error)) => Err(error),

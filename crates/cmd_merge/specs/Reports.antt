@@ -15,8 +15,8 @@ use Rattle.program_batch.specs.Reasons.{with_known_reason}
 use Rattle.program_batch.specs.declared.reason.Reason.{Reason}
 use Rattle.program_batch.specs.declared.report.Verdict.{Verdict}
 use Rattle.program_batch.specs.declared.report.Verdict.TheVariants.{Clean, Amiss, Failed}
-use Rattle.program_arguments.specs.declared.asked.DiffForm.{DiffForm}
-use Rattle.program_arguments.specs.declared.asked.DiffForm.TheVariants.{Text, Json}
+use Rattle.program_arguments.specs.declared.jobs.DiffForm.{DiffForm}
+use Rattle.program_arguments.specs.declared.jobs.DiffForm.TheVariants.{Text, Json}
 use Rattle.cmd_diff.specs.Differences.{Contents, fault_line, printed_fault}
 use Rattle.cmd_merge.specs.Setup.{SetupView}
 use Rattle.cmd_merge.specs.Objects.{choice_lines, summary_object}

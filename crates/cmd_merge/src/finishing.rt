@@ -12,27 +12,27 @@ use d64_merge::{keeps_codes, merged_bytes};
 use host_storage::Host;
 use out_json_csv::Scratch;
 use out_messages::{present_line, unwritten_line};
-use program_batch::{AnswerRoom, Reason, Verdict, push_known_reason, reason_unwritten};
+use program_batch::{Reason, ReportBuffer, Verdict, push_known_reason, reason_unwritten};
 use sha2::{Digest, Sha256};
 use std::alloc::{AllocError, Global};
 use std::mem;
 
 /// Puts into the room that the file that was to be made is there already.
-pub fn say_present(setup: &Setup, room: &mut AnswerRoom) -> Result<Verdict, AllocError>
-    ensures { IfOk result (λ verdict. answer_of room.new.printed.items room.new.complaint.items verdict ≡ present_answer setup.now) }
+pub fn say_present(setup: &Setup, buffer: &mut ReportBuffer) -> Result<Verdict, AllocError>
+    ensures { IfOk result (λ verdict. answer_of buffer.new.printed.items buffer.new.complaint.items verdict ≡ present_answer setup.now) }
 {
-    room.clear();
-    present_line(&mut room.complaint, setup.out.as_bytes())?;
+    buffer.clear();
+    present_line(&mut buffer.complaint, setup.out.as_bytes())?;
     Ok(Verdict::Failed)
 }
 
 /// Puts into the room, which is empty, what is said of files that are no dumps.
-fn say_faults(readings: &Readings, room: &mut AnswerRoom) -> Result<Verdict, AllocError>
-    ensures { IfOk result (λ verdict. answer_of room.new.printed.items room.new.complaint.items verdict ≡ faulted_answer readings.now) }
+fn say_faults(readings: &Readings, buffer: &mut ReportBuffer) -> Result<Verdict, AllocError>
+    ensures { IfOk result (λ verdict. answer_of buffer.new.printed.items buffer.new.complaint.items verdict ≡ faulted_answer readings.now) }
 {
-    room.clear();
-    room.printed.extend_from_slice(&readings.printed)?;
-    room.complaint.extend_from_slice(&readings.complaint)?;
+    buffer.clear();
+    buffer.printed.extend_from_slice(&readings.printed)?;
+    buffer.complaint.extend_from_slice(&readings.complaint)?;
     Ok(Verdict::Failed)
 }
 
@@ -44,20 +44,20 @@ fn say_merged(
     readings: &Readings,
     plan: &Plan,
     bytes: Option<&[u8]>,
-    room: &mut AnswerRoom,
+    buffer: &mut ReportBuffer,
 ) -> Result<Verdict, AllocError>
     requires list { plan.now.list.items ≡ choices_of setup.now readings.now }
     requires left { plan.now.left.items ≡ left_of setup.now readings.now }
-    ensures { IfOk result (λ verdict. answer_of room.new.printed.items room.new.complaint.items verdict ≡ merged_answer setup.now readings.now (option_map (λ bytes. bytes.now) bytes.entry)) }
+    ensures { IfOk result (λ verdict. answer_of buffer.new.printed.items buffer.new.complaint.items verdict ≡ merged_answer setup.now readings.now (option_map (λ bytes. bytes.now) bytes.entry)) }
 {
-    room.clear();
+    buffer.clear();
     let digest = match bytes {
         Some(bytes) => Some(Sha256::digest(bytes)),
         None => None,
     };
-    let out = mem::replace(&mut room.printed, Vec::new(alloc));
+    let out = mem::replace(&mut buffer.printed, Vec::new(alloc));
     let mut scratch = Scratch::new(alloc);
-    room.printed = print_report(&mut scratch, setup, readings, plan, digest.as_ref(), out)?;
+    buffer.printed = print_report(&mut scratch, setup, readings, plan, digest.as_ref(), out)?;
     Ok(verdict_on(&plan.list))
 }
 
@@ -69,18 +69,18 @@ fn say_unwritten(
     readings: &Readings,
     plan: &Plan,
     reason: Option<Reason>,
-    room: &mut AnswerRoom,
+    buffer: &mut ReportBuffer,
 ) -> Result<Verdict, AllocError>
     requires list { plan.now.list.items ≡ choices_of setup.now readings.now }
     requires left { plan.now.left.items ≡ left_of setup.now readings.now }
-    ensures { IfOk result (λ verdict. answer_of room.new.printed.items room.new.complaint.items verdict ≡ unwritten_answer setup.now readings.now reason) }
+    ensures { IfOk result (λ verdict. answer_of buffer.new.printed.items buffer.new.complaint.items verdict ≡ unwritten_answer setup.now readings.now reason) }
 {
-    room.clear();
-    let out = mem::replace(&mut room.printed, Vec::new(alloc));
+    buffer.clear();
+    let out = mem::replace(&mut buffer.printed, Vec::new(alloc));
     let mut scratch = Scratch::new(alloc);
-    room.printed = print_report(&mut scratch, setup, readings, plan, None, out)?;
-    unwritten_line(&mut room.complaint, setup.out.as_bytes())?;
-    push_known_reason(&mut room.complaint, reason)?;
+    buffer.printed = print_report(&mut scratch, setup, readings, plan, None, out)?;
+    unwritten_line(&mut buffer.complaint, setup.out.as_bytes())?;
+    push_known_reason(&mut buffer.complaint, reason)?;
     Ok(Verdict::Failed)
 }
 
@@ -92,23 +92,23 @@ fn write<H: Host>(
     readings: &Readings,
     plan: &Plan,
     host: &mut H,
-    room: &mut AnswerRoom,
+    buffer: &mut ReportBuffer,
 ) -> Result<Verdict, AllocError>
     requires list { plan.now.list.items ≡ choices_of setup.now readings.now }
     requires left { plan.now.left.items ≡ left_of setup.now readings.now }
     ensures written { IfOk result (λ verdict. Writes setup.now readings.now (option_map dump_bytes (made setup.now readings.now)) (H.state host.old)
-        (answer_of room.new.printed.items room.new.complaint.items verdict) (H.state host.new)) }
+        (answer_of buffer.new.printed.items buffer.new.complaint.items verdict) (H.state host.new)) }
     ensures memory { IfErr result (λ error. MayHaveMade setup.now (option_map dump_bytes (made setup.now readings.now)) (H.state host.old) (H.state host.new)) }
 {
     let with_codes = keeps_codes(setup.plain, &readings.dumps);
     let Some(bytes) = merged_bytes(alloc, with_codes, &readings.dumps, &plan.list)? else {
-        return say_merged(alloc, setup, readings, plan, None, room);
+        return say_merged(alloc, setup, readings, plan, None, buffer);
     };
     match host.make_file(&setup.out, &bytes) {
-        Ok(()) => say_merged(alloc, setup, readings, plan, Some(&bytes), room),
+        Ok(()) => say_merged(alloc, setup, readings, plan, Some(&bytes), buffer),
         Err(_) => {
             let reason = reason_unwritten(host, &setup.out);
-            say_unwritten(alloc, setup, readings, plan, reason, room)
+            say_unwritten(alloc, setup, readings, plan, reason, buffer)
         }
     }
 }
@@ -121,15 +121,15 @@ pub fn finish<H: Host>(
     setup: &Setup,
     readings: &Readings,
     host: &mut H,
-    room: &mut AnswerRoom,
+    buffer: &mut ReportBuffer,
 ) -> Result<Verdict, AllocError>
     ensures finished { IfOk result (λ verdict. Finishes setup.now readings.now (H.state host.old)
-        (answer_of room.new.printed.items room.new.complaint.items verdict) (H.state host.new)) }
+        (answer_of buffer.new.printed.items buffer.new.complaint.items verdict) (H.state host.new)) }
     ensures memory { IfErr result (λ error. MayHaveMade setup.now (option_map dump_bytes (made setup.now readings.now)) (H.state host.old) (H.state host.new)) }
 {
     if !readings.is_answered() {
-        return say_faults(readings, room);
+        return say_faults(readings, buffer);
     }
     let plan = plan_of(alloc, setup, readings)?;
-    write(alloc, setup, readings, &plan, host, room)
+    write(alloc, setup, readings, &plan, host, buffer)
 }

@@ -188,7 +188,11 @@ fn push_differing(out: &mut Vec<u8>, list: &[Choice]) -> Result<(), AllocError>
     ensures { OnOk result (out.new.items ≡ out.old.items ++ differing_text list.now) }
 {
     push_if_any(out, count_of(Outcome::Majority, list), b" by majority")?;
-    push_if_any(out, count_of(Outcome::First, list), b" from the first good copy")?;
+    push_if_any(
+        out,
+        count_of(Outcome::First, list),
+        b" from the first good copy",
+    )?;
     push_if_any(out, count_of(Outcome::Conflict, list), b" in conflict")
 }
 

@@ -2,7 +2,7 @@
 ghost use Rattle.std.specs.Prelude.{◌≡◌, ◌++◌, map, option_map, string_bytes, IfOk, OnOk};
 ghost use Rattle.d64_merge.specs.Merged.{choices, merged_tracks, keeps_codes};
 ghost use Rattle.d64_merge.specs.Left.{left};
-ghost use Rattle.program_arguments.specs.declared.asked.DiffForm.TheVariants.{Text as as_text, Json as as_json};
+ghost use Rattle.program_arguments.specs.declared.jobs.DiffForm.TheVariants.{Text as as_text, Json as as_json};
 ghost use Rattle.cmd_merge.specs.Reports.{choices_of, left_of, report_by, report_of, verdict_on};
 
 use crate::lines::push_report;

@@ -6,7 +6,7 @@ use Rattle.host_storage.specs.Files.{Files}
 use Rattle.host_storage.specs.Host.{Fetches, Opens, IsOfDeviceOrMemory}
 use Rattle.host_storage.specs.declared.host.HostFault.{HostFault}
 use Rattle.host_storage.specs.declared.host.HostFault.TheVariants.{Missing, Device, TooLong, Memory}
-use Rattle.d64_undo.specs.ResumeFault.{first_fault, told_by}
+use Rattle.d64_undo.specs.ResumeFault.{first_fault, reported_by}
 use Rattle.d64_undo.specs.declared.resume_fault.ResumeFault.{ResumeFault}
 use Rattle.d64_undo.specs.declared.resume_fault.ResumeFault.TheVariants as resumes
 use Rattle.cmd_shell.specs.ShellRuns.{GivesNoSession}
@@ -17,14 +17,14 @@ pub fetches_read : (files : Option Files) (name : List ℕ) (limit : ℕ) (rest 
     → Opens files name (Ok rest) → IfSome rest (λ all. all ≡ bytes) → length bytes ≤ limit → Fetches files name limit (Ok bytes)
 fetches_read None name limit rest bytes opened whole within = within
 fetches_read (Some all) name limit None bytes opened whole within = absurd opened
-fetches_read (Some all) name limit (Some told) bytes opened whole within = (subst (λ (it : List ℕ). get all name ≡ Some it) whole opened, within)
+fetches_read (Some all) name limit (Some reported) bytes opened whole within = (subst (λ (it : List ℕ). get all name ≡ Some it) whole opened, within)
 
 -- a file that has more bytes than may be read
 pub fetches_too_long : (files : Option Files) (name : List ℕ) (limit : ℕ) (rest : Option (List ℕ))
     → Opens files name (Ok rest) → IfSome rest (λ all. limit < length all) → Fetches files name limit (Err TooLong)
 fetches_too_long None name limit rest opened long = tt
 fetches_too_long (Some all) name limit None opened long = absurd opened
-fetches_too_long (Some all) name limit (Some told) opened long =
+fetches_too_long (Some all) name limit (Some reported) opened long =
     subst (λ (it : Option (List ℕ)). IsSomeAnd it (λ bytes. limit < length bytes)) (sym opened) long
 
 -- a file that could not be opened
@@ -49,10 +49,10 @@ fetches_failed (Some all) name limit Device failed = tt
 fetches_failed (Some all) name limit (Memory error) failed = tt
 
 -- bytes that are refused give no session
-pub gives_none : (fault : ResumeFault) (bytes : List ℕ) → told_by fault (first_fault bytes) ≡ first_fault bytes → GivesNoSession (Ok bytes) (fault_of_resume fault)
-gives_none resumes.NotSession bytes told = inl (resumes.NotSession, sym told, refl)
-gives_none resumes.Truncated bytes told = inl (resumes.Truncated, sym told, refl)
-gives_none resumes.Trailing bytes told = inl (resumes.Trailing, sym told, refl)
-gives_none resumes.BadCursor bytes told = inl (resumes.BadCursor, sym told, refl)
-gives_none resumes.BadRecord bytes told = inl (resumes.BadRecord, sym told, refl)
-gives_none (resumes.Memory error) bytes told = inr refl
+pub gives_none : (fault : ResumeFault) (bytes : List ℕ) → reported_by fault (first_fault bytes) ≡ first_fault bytes → GivesNoSession (Ok bytes) (fault_of_resume fault)
+gives_none resumes.NotSession bytes reported = inl (resumes.NotSession, sym reported, refl)
+gives_none resumes.Truncated bytes reported = inl (resumes.Truncated, sym reported, refl)
+gives_none resumes.Trailing bytes reported = inl (resumes.Trailing, sym reported, refl)
+gives_none resumes.BadCursor bytes reported = inl (resumes.BadCursor, sym reported, refl)
+gives_none resumes.BadRecord bytes reported = inl (resumes.BadRecord, sym reported, refl)
+gives_none (resumes.Memory error) bytes reported = inr refl

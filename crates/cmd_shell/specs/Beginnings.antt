@@ -1,7 +1,7 @@
 -- What a script begins with, where it comes from, and how it is run.
 use Rattle.std.specs.Prelude.{ℕ, if◌then◌else◌, List, [], ◌∷◌, ◌++◌, Option, Some, None, Bool, flat_map}
-use Rattle.script_run.specs.declared.manners.Refusals.{Refusals}
-use Rattle.script_run.specs.declared.manners.Refusals.TheVariants.{GoOn, Stop}
+use Rattle.script_run.specs.declared.run_options.Refusals.{Refusals}
+use Rattle.script_run.specs.declared.run_options.Refusals.TheVariants.{GoOn, Stop}
 
 -- what a script begins with: a blank image of this many tracks, the image of a host file, or the
 -- session of one

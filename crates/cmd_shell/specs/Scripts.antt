@@ -1,6 +1,6 @@
 -- The script that the arguments ask for, by the fields of `ShellJob`.
 use Rattle.std.specs.Prelude.{map, option_copied, string_bytes}
-use Rattle.script_run.specs.Transcript.{Manner}
+use Rattle.script_run.specs.Transcript.{RunOptions}
 use Rattle.cmd_shell.specs.Beginnings.{Beginning, Source, beginning_of, home_of, source_of}
 use Rattle.cmd_shell.specs.declared.shell_job.ShellJob.{ShellJob}
 
@@ -13,5 +13,5 @@ abbrev pub source_in : ShellJob → Source
 source_in job = source_of (map string_bytes job.lines.now)
 
 -- how it is run
-abbrev pub manner_in : ShellJob → Manner
-manner_in job = record { home = home_of (option_copied job.image); refusals = job.refusals }
+abbrev pub options_in : ShellJob → RunOptions
+options_in job = record { home = home_of (option_copied job.image); refusals = job.refusals }

@@ -14,7 +14,7 @@ use Rattle.d64_undo.specs.ResumeFault.{first_fault}
 use Rattle.d64_undo.specs.SessionFile.{IsSession, file_of}
 use Rattle.d64_undo.specs.declared.resume_fault.ResumeFault.{ResumeFault}
 use Rattle.script_run.specs.Runner.{Ran, ScriptState}
-use Rattle.script_run.specs.Transcript.{Manner}
+use Rattle.script_run.specs.Transcript.{RunOptions}
 use Rattle.script_run.specs.declared.runner.Outcome.{Outcome}
 use Rattle.script_run.specs.declared.runner.ShellFault.{ShellFault}
 use Rattle.program_exit.specs.declared.program_fault.ProgramFault.{ProgramFault}
@@ -41,17 +41,17 @@ IsFirstHistory old (SessionFile name) history new = IsSession history × Fetches
 
 -- a script has run that comes from the input, or from the arguments: then nothing of the input was
 -- read, and the text is all that there was to read
-abbrev pub RanFrom : Source → Manner → Option (List ℕ) → Option (List ℕ) → ScriptState → ScriptState → Result Outcome ShellFault → Type 0
-RanFrom Input manner reader left old new ended = Ran manner reader left old new ended
-RanFrom (Given text) manner reader left old new ended = (left ≡ reader) × Ran manner (Some text) (Some []) old new ended
+abbrev pub RanFrom : Source → RunOptions → Option (List ℕ) → Option (List ℕ) → ScriptState → ScriptState → Result Outcome ShellFault → Type 0
+RanFrom Input options reader left old new ended = Ran options reader left old new ended
+RanFrom (Given text) options reader left old new ended = (left ≡ reader) × Ran options (Some text) (Some []) old new ended
 
 -- the script has run from this beginning, and ended with this result
-pub record RanShell (beginning : Beginning) (source : Source) (manner : Manner) (old new : Outside) (ended : Result Outcome ShellFault) : Type 0 where
+pub record RanShell (beginning : Beginning) (source : Source) (options : RunOptions) (old new : Outside) (ended : Result Outcome ShellFault) : Type 0 where
   pub first : History
   pub host : HostState
   pub begins : IsFirstHistory old.host beginning first host
   pub last : History
-  pub ran : RanFrom source manner old.reader new.reader
+  pub ran : RanFrom source options old.reader new.reader
       (record { writer = old.output.contents; world = record { host = host; history = first } })
       (record { writer = new.output.contents; world = record { host = new.host; history = last } }) ended
 
@@ -67,20 +67,20 @@ status_of outcome = if outcome.refused == 0 then 0 else 1
 -- why a host file that was fetched with this result gives no image: the fetch failed, the length is
 -- wrong, or memory ran out
 abbrev pub GivesNoImage : Result (List ℕ) HostFault → ProgramFault → Type 0
-GivesNoImage (Err fault) told = told ≡ fault_of_file UnreadableImage fault
-GivesNoImage (Ok bytes) told = ((told ≡ WrongLength (length bytes)) × (is_image_length (length bytes) ≡ false)) ⊎ (told ≡ Memory)
+GivesNoImage (Err fault) reported = reported ≡ fault_of_file UnreadableImage fault
+GivesNoImage (Ok bytes) reported = ((reported ≡ WrongLength (length bytes)) × (is_image_length (length bytes) ≡ false)) ⊎ (reported ≡ Memory)
 
 -- why a host file that was fetched with this result gives no session: the fetch failed, its bytes
 -- are not a session, of which the first fault is reported, or memory ran out
 abbrev pub GivesNoSession : Result (List ℕ) HostFault → ProgramFault → Type 0
-GivesNoSession (Err fault) told = told ≡ fault_of_file UnreadableSession fault
-GivesNoSession (Ok bytes) told = ((fault : ResumeFault) × (first_fault bytes ≡ Some fault) × (told ≡ fault_of_resume fault)) ⊎ (told ≡ Memory)
+GivesNoSession (Err fault) reported = reported ≡ fault_of_file UnreadableSession fault
+GivesNoSession (Ok bytes) reported = ((fault : ResumeFault) × (first_fault bytes ≡ Some fault) × (reported ≡ fault_of_resume fault)) ⊎ (reported ≡ Memory)
 
 -- why there is no session to begin with, and the state of the host then
 abbrev pub HasNoHistory : ProgramFault → HostState → Beginning → HostState → Type 0
-HasNoHistory told old (Blank tracks) new = (told ≡ Memory) × (new ≡ old)
-HasNoHistory told old (ImageFile name) new = (fetched : Result (List ℕ) HostFault) × FetchesFile old name file_limit fetched new × GivesNoImage fetched told
-HasNoHistory told old (SessionFile name) new = (fetched : Result (List ℕ) HostFault) × FetchesFile old name session_limit fetched new × GivesNoSession fetched told
+HasNoHistory reported old (Blank tracks) new = (reported ≡ Memory) × (new ≡ old)
+HasNoHistory reported old (ImageFile name) new = (fetched : Result (List ℕ) HostFault) × FetchesFile old name file_limit fetched new × GivesNoImage fetched reported
+HasNoHistory reported old (SessionFile name) new = (fetched : Result (List ℕ) HostFault) × FetchesFile old name session_limit fetched new × GivesNoSession fetched reported
 
 -- no line has run, since there is no session
 abbrev pub HasNotBegunFor : ProgramFault → Beginning → Outside → Outside → Type 0
@@ -93,16 +93,16 @@ HasNoText fault (Given text) old new = (fault ≡ Memory) × (new ≡ old)
 
 -- why a run that ended with this result is reported as this fault: the fault stopped it, or the
 -- output takes no more bytes
-abbrev pub IsToldOf : Result Outcome ShellFault → ProgramFault → Type 0
-IsToldOf (Ok outcome) told = told ≡ Write
-IsToldOf (Err fault) told = (told ≡ fault_of_run fault) ⊎ (told ≡ Write)
+abbrev pub IsReportedAs : Result Outcome ShellFault → ProgramFault → Type 0
+IsReportedAs (Ok outcome) reported = reported ≡ Write
+IsReportedAs (Err fault) reported = (reported ≡ fault_of_run fault) ⊎ (reported ≡ Write)
 
 -- what a reported fault says of the run: no line has run, since there is no text or no session; or
 -- the script has run until this fault
-abbrev pub StoppedBy : ProgramFault → Beginning → Source → Manner → Outside → Outside → Type 0
-StoppedBy fault beginning source manner old new =
+abbrev pub StoppedBy : ProgramFault → Beginning → Source → RunOptions → Outside → Outside → Type 0
+StoppedBy fault beginning source options old new =
     HasNoText fault source old new ⊎ (HasNotBegunFor fault beginning old new
-    ⊎ ((ended : Result Outcome ShellFault) × RanShell beginning source manner old new ended × IsToldOf ended fault))
+    ⊎ ((ended : Result Outcome ShellFault) × RanShell beginning source options old new ended × IsReportedAs ended fault))
 
 -- a fault of reading is due: the input cannot be read to its end, or the arguments give more than a
 -- script may have
@@ -117,7 +117,7 @@ IsDue Write source new = new.output.has_failed ≡ true
 IsDue other source new = ⊤
 
 -- how the shell ended: the script ran to its end, and no fault is reported; or a fault stopped it
-abbrev pub EndedShell : Beginning → Source → Manner → Outside → Outside → Account → Account → ℕ → Type 0
-EndedShell beginning source manner old new faults told status =
-    ((outcome : Outcome) × RanShell beginning source manner old new (Ok outcome) × (status ≡ status_of outcome) × (told ≡ faults))
-    ⊎ ((fault : ProgramFault) × StoppedBy fault beginning source manner old new × IsDue fault source new × Reports fault faults told status)
+abbrev pub EndedShell : Beginning → Source → RunOptions → Outside → Outside → Account → Account → ℕ → Type 0
+EndedShell beginning source options old new faults reported status =
+    ((outcome : Outcome) × RanShell beginning source options old new (Ok outcome) × (status ≡ status_of outcome) × (reported ≡ faults))
+    ⊎ ((fault : ProgramFault) × StoppedBy fault beginning source options old new × IsDue fault source new × Reports fault faults reported status)

@@ -5,9 +5,9 @@ ghost use Rattle.d64_image.specs.Image.{IsImage, bytes_of};
 ghost use Rattle.d64_undo.specs.SessionFile.{IsSession, file_of};
 ghost use Rattle.script_text.specs.Input.{IsUnread, reading_of};
 ghost use Rattle.script_commands.specs.Act.{FetchesFile, world_of};
-ghost use Rattle.script_run.specs.Runner.{manner_of, script_state};
+ghost use Rattle.script_run.specs.Runner.{options_of, script_state};
 ghost use Rattle.cmd_shell.specs.Beginnings.{Given, beginning_of, refusals_of, source_by, source_of, text_of_lines};
-ghost use Rattle.cmd_shell.specs.Scripts.{beginning_in, manner_in, source_in};
+ghost use Rattle.cmd_shell.specs.Scripts.{beginning_in, options_in, source_in};
 ghost use Rattle.cmd_shell.specs.ShellRuns.{IsDue, IsFirstHistory, IsReadDue, HasNoHistory, GivesNoImage, GivesNoSession, RanFrom, RanShell, StoppedBy, blank_image, session_limit, status_of};
 ghost use Rattle.program_batch.specs.Runs.{file_limit};
 ghost use Rattle.program_exit.specs.Outside.{outside_at};
@@ -16,7 +16,7 @@ use d64_image::{BLOCKS, Image, ImageFault, blocks_of};
 use d64_undo::{ReadFault, Session, resume_from};
 use host_storage::{Host, HostFault};
 use program_exit::{ALL_ACCEPTED, ProgramFault, SOME_REFUSED, fetch_file};
-use script_run::{Listener, Manner, Opening, Outcome, Refusals, ScriptRunner, ShellFault};
+use script_run::{Observer, Opening, Outcome, Refusals, RunOptions, ScriptRunner, ShellFault};
 use script_text::input::InputStream;
 use script_text::output::OutputStream;
 use std::alloc::{AllocError, Global};
@@ -41,15 +41,15 @@ pub struct ShellJob<'n> {
 
 impl<'n> ShellJob<'n> {
     /// Runs the script on its session, and then flushes the output. If the arguments give the
-    /// script, nothing of the input is read. The run is the same with every listener, which follows
+    /// script, nothing of the input is read. The run is the same with every observer, which follows
     /// the session's begin and end, too.
-    pub fn run<R: Read, W: Write, H: Host, L: Listener>(
+    pub fn run<R: Read, W: Write, H: Host, L: Observer>(
         self,
         alloc: Global,
         input: &mut InputStream<'_, R>,
         output: &mut OutputStream<'_, W>,
         host: &mut H,
-        listener: &mut L,
+        observer: &mut L,
     ) -> Result<Outcome, ProgramFault>
         requires unread { IsUnread (reading_of input.old.reads input.old.came input.old.has_failed) }
         requires unfailed { output.old.has_failed ≡ false }
@@ -57,10 +57,10 @@ impl<'n> ShellJob<'n> {
         ensures input { input.new.reader.ghost_name ≡ input.old.reader.ghost_name }
         ensures output { output.new.writer.ghost_name ≡ output.old.writer.ghost_name }
         ensures delivered { OnOk result ((output.new.is_delivered ≡ true) × (output.new.has_failed ≡ false)) }
-        ensures ran { IfOk result (λ outcome. RanShell (beginning_in self.entry) (source_in self.entry) (manner_in self.entry)
+        ensures ran { IfOk result (λ outcome. RanShell (beginning_in self.entry) (source_in self.entry) (options_in self.entry)
             (outside_at R.remaining input.old W.contents output.old H.state host.old)
             (outside_at R.remaining input.new W.contents output.new H.state host.new) (Ok outcome)) }
-        ensures stopped { IfErr result (λ fault. StoppedBy fault (beginning_in self.entry) (source_in self.entry) (manner_in self.entry)
+        ensures stopped { IfErr result (λ fault. StoppedBy fault (beginning_in self.entry) (source_in self.entry) (options_in self.entry)
             (outside_at R.remaining input.old W.contents output.old H.state host.old)
             (outside_at R.remaining input.new W.contents output.new H.state host.new)) }
         ensures due { IfErr result (λ fault. IsDue fault (source_in self.entry)
@@ -73,19 +73,19 @@ impl<'n> ShellJob<'n> {
             self.image,
             self.tracks,
             self.resume,
-            listener,
+            observer,
         )?;
-        listener.begin(&self.opening(), &session);
+        observer.begin(&self.opening(), &session);
         let script = GivenScript {
             alloc,
             text: text.as_deref(),
-            manner: Manner {
+            options: RunOptions {
                 home: self.image.unwrap_or(""),
                 refusals: self.refusals,
             },
         };
-        let ran = script.run(input, output, host, &mut session, listener);
-        listener.end(self.image.unwrap_or(""), &session);
+        let ran = script.run(input, output, host, &mut session, observer);
+        observer.end(self.image.unwrap_or(""), &session);
         match output.flush() {
             Ok(()) => Ok(ran?),
             Err(_) => Err(ProgramFault::Write),
@@ -94,7 +94,7 @@ impl<'n> ShellJob<'n> {
 }
 
 impl<'n> ShellJob<'n> {
-    /// Returns what the listener gets at the session's begin.
+    /// Returns what the observer gets at the session's begin.
     fn opening(&self) -> Opening<'n> {
         Opening {
             home: self.image.unwrap_or(""),
@@ -134,25 +134,25 @@ struct GivenScript<'n> {
     alloc: Global,
     /// Its text; without one, the script is the input.
     text: Option<&'n [u8]>,
-    manner: Manner<'n>,
+    options: RunOptions<'n>,
 }
 
 impl<'n> GivenScript<'n> {
     /// Runs the script on a session. If it has a text, nothing of the input is read.
-    fn run<R: Read, W: Write, H: Host, L: Listener>(
+    fn run<R: Read, W: Write, H: Host, L: Observer>(
         self,
         input: &mut InputStream<'_, R>,
         output: &mut OutputStream<'_, W>,
         host: &mut H,
         session: &mut Session,
-        listener: &mut L,
+        observer: &mut L,
     ) -> Result<Outcome, ShellFault>
         requires unread { IsUnread (reading_of input.old.reads input.old.came input.old.has_failed) }
         requires unfailed { output.old.has_failed ≡ false }
         requires delivered { output.old.is_delivered ≡ true }
         ensures input { input.new.reader.ghost_name ≡ input.old.reader.ghost_name }
         ensures output { output.new.writer.ghost_name ≡ output.old.writer.ghost_name }
-        ensures ran { RanFrom (source_by (option_copied self.entry.text)) (manner_of self.entry.manner) (R.remaining input.old.reader.now) (R.remaining input.new.reader.now)
+        ensures ran { RanFrom (source_by (option_copied self.entry.text)) (options_of self.entry.options) (R.remaining input.old.reader.now) (R.remaining input.new.reader.now)
             (script_state (W.contents output.old.writer.now) (world_of (H.state host.old) session.old))
             (script_state (W.contents output.new.writer.now) (world_of (H.state host.new) session.new))
             result }
@@ -162,8 +162,8 @@ impl<'n> GivenScript<'n> {
     {
         let runner = ScriptRunner {
             alloc: self.alloc,
-            manner: self.manner,
-            listener,
+            options: self.options,
+            observer,
         };
         let Some(text) = self.text else {
             return runner.run(input, output, host, session);
@@ -173,14 +173,14 @@ impl<'n> GivenScript<'n> {
 }
 
 /// Returns the session that the script runs on: of a session file, of an image file, or of a blank
-/// image. The listener gets the file that gives none.
-fn first_session<H: Host, L: Listener>(
+/// image. The observer gets the file that gives none.
+fn first_session<H: Host, L: Observer>(
     alloc: Global,
     host: &mut H,
     image: Option<&str>,
     tracks: u8,
     resume: Option<&str>,
-    listener: &mut L,
+    observer: &mut L,
 ) -> Result<Session, ProgramFault>
     ensures session { IfOk result (λ session. IsFirstHistory
         (H.state host.old)
@@ -192,20 +192,20 @@ fn first_session<H: Host, L: Listener>(
         (H.state host.new)) }
 {
     if let Some(name) = resume {
-        return session_of_file(alloc, host, name, listener);
+        return session_of_file(alloc, host, name, observer);
     }
     match image {
-        Some(name) => Ok(Session::new(alloc, image_of_file(alloc, host, name, listener)?)),
+        Some(name) => Ok(Session::new(alloc, image_of_file(alloc, host, name, observer)?)),
         None => Ok(Session::new(alloc, blank_image(alloc, tracks)?)),
     }
 }
 
 /// Returns the session of a host file.
-fn session_of_file<H: Host, L: Listener>(
+fn session_of_file<H: Host, L: Observer>(
     alloc: Global,
     host: &mut H,
     name: &str,
-    listener: &mut L,
+    observer: &mut L,
 ) -> Result<Session, ProgramFault>
     ensures session { IfOk result (λ session. IsSession session × FetchesFile
         (H.state host.old)
@@ -220,7 +220,7 @@ fn session_of_file<H: Host, L: Listener>(
     let mut file = match host.open(name) {
         Ok(file) => file,
         Err(fault) => {
-            listener.miss(name, Err(fault));
+            observer.miss(name, Err(fault));
             return Err(ProgramFault::of_file(fault, ProgramFault::UnreadableSession));
         }
     };
@@ -229,7 +229,7 @@ fn session_of_file<H: Host, L: Listener>(
         Err(ReadFault::Resume(fault)) => Err(fault.into()),
         Err(ReadFault::TooLong) => Err(ProgramFault::UnreadableSession),
         Err(ReadFault::Device) => {
-            listener.miss(name, Err(HostFault::Device));
+            observer.miss(name, Err(HostFault::Device));
             host.count_failed_read();
             Err(ProgramFault::UnreadableSession)
         }
@@ -248,11 +248,11 @@ fn blank_image(alloc: Global, tracks: u8) -> Result<Image, AllocError>
 }
 
 /// Returns the image of a host file.
-fn image_of_file<H: Host, L: Listener>(
+fn image_of_file<H: Host, L: Observer>(
     alloc: Global,
     host: &mut H,
     name: &str,
-    listener: &mut L,
+    observer: &mut L,
 ) -> Result<Image, ProgramFault>
     ensures image { IfOk result (λ image. IsImage image × FetchesFile
         (H.state host.old)
@@ -265,20 +265,20 @@ fn image_of_file<H: Host, L: Listener>(
         × GivesNoImage fetched fault) }
 {
     match fetch_file(alloc, host, name) {
-        Ok(bytes) => image_of_bytes(alloc, name, bytes.as_slice(), listener),
+        Ok(bytes) => image_of_bytes(alloc, name, bytes.as_slice(), observer),
         Err(fault) => {
-            listener.miss(name, Err(fault));
+            observer.miss(name, Err(fault));
             Err(ProgramFault::of_file(fault, ProgramFault::UnreadableImage))
         }
     }
 }
 
 /// Returns the image of the bytes of the host file with this name.
-fn image_of_bytes<L: Listener>(
+fn image_of_bytes<L: Observer>(
     alloc: Global,
     name: &str,
     bytes: &[u8],
-    listener: &mut L,
+    observer: &mut L,
 ) -> Result<Image, ProgramFault>
     ensures image { IfOk result (λ image. IsImage image × (bytes_of image ≡ bytes.now)) }
     ensures none { IfErr result (λ fault. GivesNoImage (Ok bytes.now) fault) }
@@ -287,7 +287,7 @@ fn image_of_bytes<L: Listener>(
         Ok(image) => Ok(image),
         Err(fault) => {
             if let ImageFault::WrongLength(_) = fault {
-                listener.miss(name, Ok(bytes));
+                observer.miss(name, Ok(bytes));
             }
             Err(fault.into())
         }

@@ -32,7 +32,7 @@ impl Model for Patch {
 }
 
 /// Makes room for one more block. An empty list first gets room for one, and a full list doubles.
-fn make_room(kept: &mut Vec<(BlockNo, [u8; BLOCK_BYTES])>) -> Result<(), AllocError>
+fn reserve_next(kept: &mut Vec<(BlockNo, [u8; BLOCK_BYTES])>) -> Result<(), AllocError>
     ensures same { kept.new.items ≡ kept.old.items }
     ensures room { OnOk result (vec_len kept.new < vec_capacity kept.new) }
 {
@@ -113,7 +113,7 @@ impl Patch {
         ensures kept { OnOk result (self.new ≡ with_kept self.old block bytes.now) }
         ensures unchanged { OnErr result (self.new ≡ self.old) }
     {
-        make_room(&mut self.kept)?;
+        reserve_next(&mut self.kept)?;
         let place = self.place_of(block);
         self.kept.insert(place, (block, *bytes)).unwrap();
         Ok(())
@@ -127,7 +127,7 @@ impl Patch {
         ensures unchanged { OnErr result (self.new ≡ self.old) }
     {
         block.known_block();
-        make_room(&mut self.kept)?;
+        reserve_next(&mut self.kept)?;
         self.kept.push((block, *bytes)).unwrap();
         Ok(())
     }

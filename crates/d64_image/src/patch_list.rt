@@ -46,7 +46,7 @@ impl Model for PatchList {
 }
 
 /// Makes room for the first blocks of a list that has no room yet.
-fn make_first_room(blocks: &mut Vec<(BlockNo, [u8; BLOCK_BYTES])>) -> Result<(), AllocError>
+fn reserve_first(blocks: &mut Vec<(BlockNo, [u8; BLOCK_BYTES])>) -> Result<(), AllocError>
     ensures same { blocks.new.items ≡ blocks.old.items }
     ensures room { OnOk result (0 < vec_capacity blocks.new) }
 {
@@ -155,7 +155,7 @@ impl PatchList {
         let blocks = patch.blocks();
         let end = self.blocks.len();
         self.lens.reserve(1)?;
-        make_first_room(&mut self.blocks)?;
+        reserve_first(&mut self.blocks)?;
         self.blocks.extend_from_slice(blocks)?;
         self.blocks.copy_within(end.., place.blocks);
         self.blocks.truncate(place.blocks + blocks.len());

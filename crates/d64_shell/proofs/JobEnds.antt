@@ -2,13 +2,13 @@
 use Rattle.std.proofs.Common.{◌≡◌, ℕ, Bool, true, false, List, Result, Ok, Err, refl, sym, subst}
 use Rattle.std.specs.Prelude.{IfOk}
 use Rattle.script_text.specs.Output.{Account}
-use Rattle.program_arguments.specs.declared.asked.Job.{Job}
+use Rattle.program_arguments.specs.declared.requested.Job.{Job}
 use Rattle.program_batch.specs.Answers.{KeepsQuiet, Rule, by_rule}
-use Rattle.cmd_extract.specs.Conduct.{unpacks}
+use Rattle.cmd_extract.specs.Effects.{unpacks}
 use Rattle.cmd_extract.specs.Setup.{SetupView}
 use Rattle.cmd_extract.specs.declared.unpacker.Unpacker.{Unpacker}
 use Rattle.cmd_extract.proofs.QuietWork.{clean_is_quiet}
-use Rattle.script_run.specs.Transcript.{Manner}
+use Rattle.script_run.specs.Transcript.{RunOptions}
 use Rattle.cmd_shell.specs.Beginnings.{Beginning, Source}
 use Rattle.d64_shell.specs.Jobs.{JobWork, Script, Survey, Extraction, PassesOver, work_of}
 use Rattle.program_surveys.specs.SurveyFiles.{SurveyFiles}
@@ -18,30 +18,30 @@ use Rattle.program_surveys.specs.JobEnds.{EndedSurvey}
 use Rattle.d64_shell.specs.Program.{EndedWork}
 
 -- a job whose work is a survey has ended as that has
-pub survey_ended : (job : Job) (rule : Rule) (heading : List ℕ) (files shown : SurveyFiles) (old new : Outside) (faults told : Account) (status : ℕ)
-    → work_of job ≡ Survey rule heading files → shown ≡ files → EndedSurvey (by_rule rule) heading shown old new faults told status
-    → EndedWork (work_of job) old new faults told status
-survey_ended job rule heading files shown old new faults told status is same ended =
-    subst (λ (work : JobWork). EndedWork work old new faults told status) (sym is)
-    (subst (λ (f : SurveyFiles). EndedSurvey (by_rule rule) heading f old new faults told status) same ended)
+pub survey_ended : (job : Job) (rule : Rule) (heading : List ℕ) (files shown : SurveyFiles) (old new : Outside) (faults reported : Account) (status : ℕ)
+    → work_of job ≡ Survey rule heading files → shown ≡ files → EndedSurvey (by_rule rule) heading shown old new faults reported status
+    → EndedWork (work_of job) old new faults reported status
+survey_ended job rule heading files shown old new faults reported status is same ended =
+    subst (λ (work : JobWork). EndedWork work old new faults reported status) (sym is)
+    (subst (λ (f : SurveyFiles). EndedSurvey (by_rule rule) heading f old new faults reported status) same ended)
 
 -- a job whose work is a script has ended as that has
-pub script_ended : (job : Job) (beginning begun : Beginning) (source from : Source) (manner at : Manner) (old new : Outside) (faults told : Account) (status : ℕ)
-    → work_of job ≡ Script beginning source manner → begun ≡ beginning → from ≡ source → at ≡ manner → EndedShell begun from at old new faults told status
-    → EndedWork (work_of job) old new faults told status
-script_ended job beginning begun source from manner at old new faults told status is same_beginning same_source same_manner ended =
-    subst (λ (work : JobWork). EndedWork work old new faults told status) (sym is)
-    (subst (λ (m : Manner). EndedShell beginning source m old new faults told status) same_manner
-    (subst (λ (s : Source). EndedShell beginning s at old new faults told status) same_source
-    (subst (λ (b : Beginning). EndedShell b from at old new faults told status) same_beginning ended)))
+pub script_ended : (job : Job) (beginning begun : Beginning) (source from : Source) (options at : RunOptions) (old new : Outside) (faults reported : Account) (status : ℕ)
+    → work_of job ≡ Script beginning source options → begun ≡ beginning → from ≡ source → at ≡ options → EndedShell begun from at old new faults reported status
+    → EndedWork (work_of job) old new faults reported status
+script_ended job beginning begun source from options at old new faults reported status is same_beginning same_source same_options ended =
+    subst (λ (work : JobWork). EndedWork work old new faults reported status) (sym is)
+    (subst (λ (m : RunOptions). EndedShell beginning source m old new faults reported status) same_options
+    (subst (λ (s : Source). EndedShell beginning s at old new faults reported status) same_source
+    (subst (λ (b : Beginning). EndedShell b from at old new faults reported status) same_beginning ended)))
 
 -- a job whose work is an extraction has ended as that has
-pub extraction_ended : (job : Job) (setup : SetupView) (heading : List ℕ) (files shown : SurveyFiles) (old new : Outside) (faults told : Account) (status : ℕ)
-    → work_of job ≡ Extraction setup heading files → shown ≡ files → EndedSurvey (unpacks setup) heading shown old new faults told status
-    → EndedWork (work_of job) old new faults told status
-extraction_ended job setup heading files shown old new faults told status is same ended =
-    subst (λ (work : JobWork). EndedWork work old new faults told status) (sym is)
-    (subst (λ (f : SurveyFiles). EndedSurvey (unpacks setup) heading f old new faults told status) same ended)
+pub extraction_ended : (job : Job) (setup : SetupView) (heading : List ℕ) (files shown : SurveyFiles) (old new : Outside) (faults reported : Account) (status : ℕ)
+    → work_of job ≡ Extraction setup heading files → shown ≡ files → EndedSurvey (unpacks setup) heading shown old new faults reported status
+    → EndedWork (work_of job) old new faults reported status
+extraction_ended job setup heading files shown old new faults reported status is same ended =
+    subst (λ (work : JobWork). EndedWork work old new faults reported status) (sym is)
+    (subst (λ (f : SurveyFiles). EndedSurvey (unpacks setup) heading f old new faults reported status) same ended)
 
 -- an extraction that skips nothing
 not_true : (test : Bool) → (test ≡ true → ⊥) → test ≡ false

@@ -1,16 +1,16 @@
 -- What each job does.
 use Rattle.std.specs.Prelude.{◌≡◌, ℕ, true, List, [], ◌∷◌, Option, ⊤, map, option_map, string_bytes}
-use Rattle.program_arguments.specs.declared.asked.Job.{Job}
+use Rattle.program_arguments.specs.declared.requested.Job.{Job}
 use Rattle.program_surveys.specs.SurveyFiles.{SurveyFiles, Named, files_of}
 use Rattle.program_surveys.specs.Comparisons.{PairRule}
-use Rattle.script_run.specs.Transcript.{Manner}
+use Rattle.script_run.specs.Transcript.{RunOptions}
 use Rattle.cmd_basic.specs.declared.tools.Tool.{Tool}
-use Rattle.program_arguments.specs.declared.asked.Job.TheVariants.{Shell, Petcat, Crunch, Check, Files, Extract, Map, Catalogue, Diff, Merge}
-use Rattle.program_arguments.specs.declared.asked.Extraction.{Extraction as AskedExtraction}
-use Rattle.program_arguments.specs.declared.asked.Merging.{Merging as AskedMerging}
-use Rattle.program_arguments.specs.declared.asked.DiffForm.{DiffForm}
-use Rattle.program_arguments.specs.declared.asked.Format.{Format}
-use Rattle.program_arguments.specs.declared.asked.Leftovers.{Leftovers}
+use Rattle.program_arguments.specs.declared.requested.Job.TheVariants.{Shell, Petcat, Crunch, Check, Files, Extract, Map, Catalogue, Diff, Merge}
+use Rattle.program_arguments.specs.declared.requested.Extraction.{Extraction as RequestedExtraction}
+use Rattle.program_arguments.specs.declared.requested.Merging.{Merging as AskedMerging}
+use Rattle.program_arguments.specs.declared.requested.DiffForm.{DiffForm}
+use Rattle.program_arguments.specs.declared.requested.Format.{Format}
+use Rattle.program_arguments.specs.declared.requested.Leftovers.{Leftovers}
 use Rattle.program_batch.specs.Answers.{Rule}
 use Rattle.cmd_check.specs.Check.{check_rule, heading_of as check_heading}
 use Rattle.cmd_files.specs.Files.{files_rule, heading_of as files_heading}
@@ -29,15 +29,15 @@ abbrev pub form_of : Format → Leftovers → Form
 form_of format leftovers = record { format = format; leftovers = leftovers }
 
 -- the options of an extraction that the arguments give, in a form of the output
-abbrev pub setup_of : AskedExtraction → Form → SetupView
-setup_of asked form = record { into = string_bytes asked.into; with_parts = asked.part; skips = asked.skip_existing; form = form }
+abbrev pub setup_of : RequestedExtraction → Form → SetupView
+setup_of requested form = record { into = string_bytes requested.into; with_parts = requested.part; skips = requested.skip_existing; form = form }
 
 -- what a merge of these files is asked for by the words, in a form of the output
 abbrev pub merge_setup_of : AskedMerging → DiffForm → List (List ℕ) → MergeView
-merge_setup_of asked form files = record {
-  out = string_bytes asked.output;
-  preference = record { majority = asked.majority; first = asked.first };
-  plain = asked.plain;
+merge_setup_of requested form files = record {
+  out = string_bytes requested.output;
+  preference = record { majority = requested.majority; first = requested.first };
+  plain = requested.plain;
   form = form;
   names = files;
 }
@@ -47,7 +47,7 @@ merge_setup_of asked form files = record {
 -- surveys files, by a rule, with what stands before all answers; unpacks files, as is asked for,
 -- with what stands before all answers; compares the files of two names, by a rule; or merges files
 pub data JobWork : Type 0 where
-  Script : Beginning → Source → Manner → JobWork
+  Script : Beginning → Source → RunOptions → JobWork
   Conversion : Tool → Option (List ℕ) → Option (List ℕ) → JobWork
   Survey : Rule → List ℕ → SurveyFiles → JobWork
   Extraction : SetupView → List ℕ → SurveyFiles → JobWork
@@ -63,16 +63,16 @@ work_of (Petcat file output) = Conversion tools.Petcat (option_map string_bytes 
 work_of (Crunch start file output) = Conversion (tools.Crunch start) (option_map string_bytes file) (option_map string_bytes output)
 work_of (Check digest format names) = Survey (check_rule format digest) (check_heading format digest) (files_of names)
 work_of (Files leftovers format names) = Survey (files_rule (form_of format leftovers)) (files_heading (form_of format leftovers)) (files_of names)
-work_of (Extract asked leftovers format names) =
-    Extraction (setup_of asked (form_of format leftovers)) (extract_heading (form_of format leftovers)) (files_of names)
+work_of (Extract requested leftovers format names) =
+    Extraction (setup_of requested (form_of format leftovers)) (extract_heading (form_of format leftovers)) (files_of names)
 work_of (Map format file) = Survey (map_rule format) [] (Named (string_bytes file ∷ []))
 work_of (Catalogue page names) = Survey (catalogue_rule page) (catalogue_heading page) (files_of names)
 work_of (Diff format old new) = Comparison (difference_rule format) (string_bytes old) (string_bytes new)
-work_of (Merge asked format files) = Merging (merge_setup_of asked format (map string_bytes files.items))
+work_of (Merge requested format files) = Merging (merge_setup_of requested format (map string_bytes files.items))
 
 -- the work is a script, which reports nothing if it runs to its end
 abbrev pub IsScript : JobWork → Type 0
-IsScript (Script beginning source manner) = ⊤
+IsScript (Script beginning source options) = ⊤
 IsScript (Conversion tool name target) = ⊥
 IsScript (Survey rule heading files) = ⊥
 IsScript (Extraction setup heading files) = ⊥
@@ -81,7 +81,7 @@ IsScript (Merging setup) = ⊥
 
 -- the work skips folders that exist, and writes a line about each though all is well
 abbrev pub PassesOver : JobWork → Type 0
-PassesOver (Script beginning source manner) = ⊥
+PassesOver (Script beginning source options) = ⊥
 PassesOver (Conversion tool name target) = ⊥
 PassesOver (Survey rule heading files) = ⊥
 PassesOver (Extraction setup heading files) = setup.skips ≡ true

@@ -2,12 +2,12 @@
 use Rattle.std.specs.Prelude.{◌≡◌, ℕ, List, ◌∷◌, map, codes, ◌⊎◌, ⊤}
 use Rattle.script_text.specs.Output.{Account}
 use Rattle.host_names.specs.Shown.{shown_name}
-use Rattle.program_arguments.specs.Asked.{IsFault, IsJob, WasAskedFor}
-use Rattle.program_arguments.specs.declared.asked.Job.{Job}
-use Rattle.program_arguments.specs.declared.asked.JobFault.{JobFault}
-use Rattle.program_arguments.specs.declared.asked.JobFault.TheVariants.{Words}
+use Rattle.program_arguments.specs.Requested.{IsFault, IsJob, IsHelpOrVersion}
+use Rattle.program_arguments.specs.declared.requested.Job.{Job}
+use Rattle.program_arguments.specs.declared.requested.JobFault.{JobFault}
+use Rattle.program_arguments.specs.declared.requested.JobFault.TheVariants.{Words}
 use Rattle.program_batch.specs.Answers.{by_rule}
-use Rattle.cmd_extract.specs.Conduct.{unpacks}
+use Rattle.cmd_extract.specs.Effects.{unpacks}
 use Rattle.program_exit.specs.Outside.{Outside}
 use Rattle.program_exit.specs.WordFaults.{ReportsNoJob}
 use Rattle.cmd_basic.specs.ToolRuns.{EndedConversion}
@@ -18,12 +18,12 @@ use Rattle.d64_shell.specs.Jobs.{JobWork, Script, Conversion, Survey, Extraction
 
 -- how a job with this work ended
 abbrev pub EndedWork : JobWork → Outside → Outside → Account → Account → ℕ → Type 0
-EndedWork (Script beginning source manner) old new faults told status = EndedShell beginning source manner old new faults told status
-EndedWork (Conversion tool name target) old new faults told status = EndedConversion tool name target old new faults told status
-EndedWork (Survey rule heading files) old new faults told status = EndedSurvey (by_rule rule) heading files old new faults told status
-EndedWork (Extraction setup heading files) old new faults told status = EndedSurvey (unpacks setup) heading files old new faults told status
-EndedWork (Comparison rule old_name new_name) old new faults told status = EndedComparison rule old_name new_name old new faults told status
-EndedWork (Merging setup) old new faults told status = EndedMerge setup old new faults told status
+EndedWork (Script beginning source options) old new faults reported status = EndedShell beginning source options old new faults reported status
+EndedWork (Conversion tool name target) old new faults reported status = EndedConversion tool name target old new faults reported status
+EndedWork (Survey rule heading files) old new faults reported status = EndedSurvey (by_rule rule) heading files old new faults reported status
+EndedWork (Extraction setup heading files) old new faults reported status = EndedSurvey (unpacks setup) heading files old new faults reported status
+EndedWork (Comparison rule old_name new_name) old new faults reported status = EndedComparison rule old_name new_name old new faults reported status
+EndedWork (Merging setup) old new faults reported status = EndedMerge setup old new faults reported status
 
 -- the arguments with the program's name before them
 abbrev pub named_words : List (List ℕ) → List (List ℕ)
@@ -35,7 +35,7 @@ shown_words words = map shown_name words
 
 -- a fault that is an error of clap's, and neither help nor version, is an error of these arguments
 abbrev pub IsErrorOf : List (List ℕ) → JobFault → Type 0
-IsErrorOf words (Words error) = WasAskedFor (Words error) ⊎ IsFault words (Words error)
+IsErrorOf words (Words error) = IsHelpOrVersion (Words error) ⊎ IsFault words (Words error)
 IsErrorOf words fault = ⊤
 
 -- the arguments ask for the shell
@@ -51,6 +51,6 @@ AsksToPassOver after = (job : Job) × IsJob (named_words after) job × PassesOve
 -- ask for none, which is reported, with nothing read and no file touched; an error of clap's is
 -- then one of the arguments as they are shown
 abbrev pub Ended : List (List ℕ) → Outside → Outside → Account → Account → ℕ → Type 0
-Ended after old new faults told status =
-    ((job : Job) × IsJob (named_words after) job × EndedWork (work_of job) old new faults told status)
-    ⊎ ((fault : JobFault) × IsFault (named_words after) fault × IsErrorOf (named_words (shown_words after)) fault × (new.reader ≡ old.reader) × (new.host ≡ old.host) × ReportsNoJob fault old.output new.output faults told status)
+Ended after old new faults reported status =
+    ((job : Job) × IsJob (named_words after) job × EndedWork (work_of job) old new faults reported status)
+    ⊎ ((fault : JobFault) × IsFault (named_words after) fault × IsErrorOf (named_words (shown_words after)) fault × (new.reader ≡ old.reader) × (new.host ≡ old.host) × ReportsNoJob fault old.output new.output faults reported status)

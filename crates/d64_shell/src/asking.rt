@@ -2,7 +2,7 @@
 ghost use Rattle.std.specs.Prelude.{◌≡◌, List, ℕ, IfErr, IfOk, IfSome, IsTrue, false, map, string_bytes};
 ghost use Rattle.d64_shell.specs.Program.{IsErrorOf, named_words, shown_words};
 ghost use Rattle.host_names.specs.Shown.{shown_name};
-ghost use Rattle.program_arguments.specs.Asked.{IsFault, IsJob};
+ghost use Rattle.program_arguments.specs.Requested.{IsFault, IsJob};
 
 use host_names::push_shown;
 use program_arguments::{Job, JobFault, job};
@@ -11,7 +11,7 @@ use std::alloc::{AllocError, Global};
 /// Returns the job that the arguments after the program's name ask for. The text of an error of
 /// `clap`'s has them as names of the host are shown: as they were given they could command a
 /// terminal, or make a line of their own. If memory runs out for that, the fault is out of memory.
-pub(crate) fn asked(alloc: Global, words: &[&str]) -> Result<Job, JobFault>
+pub(crate) fn requested_job(alloc: Global, words: &[&str]) -> Result<Job, JobFault>
     ensures job { IfOk result (IsJob (named_words (map (λ word. word.now) words.now))) }
     ensures fault { IfErr result (IsFault (named_words (map (λ word. word.now) words.now))) }
     ensures shown { IfErr result (IsErrorOf (named_words (shown_words (map (λ word. word.now) words.now)))) }
@@ -42,7 +42,7 @@ fn named_job(alloc: Global, words: &[&str]) -> Result<Job, JobFault>
 /// Returns the fault of these arguments, whose text has them as they are shown if it is one of
 /// `clap`'s.
 fn shown_fault(alloc: Global, fault: JobFault, words: &[&str]) -> JobFault
-    ensures fault { (asked : List (List ℕ)) → IsFault asked fault → IsFault asked result }
+    ensures fault { (requested : List (List ℕ)) → IsFault requested fault → IsFault requested result }
     ensures shown { IsErrorOf (named_words (shown_words (map (λ word. word.now) words.now))) result }
 {
     if !has_words(&fault) {
@@ -60,7 +60,7 @@ fn has_words(fault: &JobFault) -> bool
     ensures { result ≡ false → (words : List (List ℕ)) → IsErrorOf words fault.now }
 {
     match fault {
-        JobFault::Words(_) => !fault.was_asked_for(),
+        JobFault::Words(_) => !fault.is_help_or_version(),
         _ => false,
     }
 }
@@ -68,7 +68,7 @@ fn has_words(fault: &JobFault) -> bool
 /// Returns the fault of these arguments as they are shown, if it is of the same kind; otherwise the
 /// fault is out of memory. No arguments are known whose fault changes its kind.
 fn fault_as_shown(alloc: Global, fault: JobFault, shown: &[String]) -> JobFault
-    ensures fault { (asked : List (List ℕ)) → IsFault asked fault → IsFault asked result }
+    ensures fault { (requested : List (List ℕ)) → IsFault requested fault → IsFault requested result }
     ensures shown { IsErrorOf (named_words (map string_bytes shown.now)) result }
 {
     let words = match lent(alloc, shown) {
@@ -85,7 +85,7 @@ fn fault_as_shown(alloc: Global, fault: JobFault, shown: &[String]) -> JobFault
 /// out of memory.
 #[tactic(auto, using(crate::proofs::Errors::of_words))]
 fn last_if_alike(fault: &JobFault, other: JobFault) -> JobFault
-    ensures fault { (asked : List (List ℕ)) → IsFault asked fault.now → IsFault asked result }
+    ensures fault { (requested : List (List ℕ)) → IsFault requested fault.now → IsFault requested result }
     ensures shown { (words : List (List ℕ)) → IsFault words other → IsErrorOf words result }
 {
     if are_alike(fault, &other) {
@@ -96,7 +96,7 @@ fn last_if_alike(fault: &JobFault, other: JobFault) -> JobFault
 
 /// Whether both are errors of `clap`'s, and of one kind.
 fn are_alike(fault: &JobFault, other: &JobFault) -> bool
-    ensures { IsTrue result → (asked : List (List ℕ)) → IsFault asked fault.now → IsFault asked other.now }
+    ensures { IsTrue result → (requested : List (List ℕ)) → IsFault requested fault.now → IsFault requested other.now }
 {
     match (fault, other) {
         (JobFault::Words(error), JobFault::Words(other)) => error.kind() == other.kind(),

@@ -8,7 +8,7 @@ ghost use Rattle.d64_shell.specs.Program.{AsksForShell, AsksToPassOver, Ended, E
 ghost use Rattle.program_exit.specs.Outside.{outside_at, outside_of};
 ghost use Rattle.cmd_basic.specs.ToolRuns.{EndedConversion};
 
-use crate::asking::asked;
+use crate::asking::requested_job;
 use crate::extraction::setup_of;
 use crate::merging::merge_setup_of;
 use cmd_basic::{Tool, ToolJob};
@@ -22,7 +22,7 @@ use host_storage::{Host, HostFault};
 use program_arguments::Job;
 use program_exit::{NOT_RUN, report_no_job};
 use program_surveys::{DifferenceJob, FileNames, MergeJob, SurveyJob};
-use script_run::{Listener, Nobody};
+use script_run::{Nobody, Observer};
 use script_text::input::InputStream;
 use script_text::output::OutputStream;
 use std::alloc::Global;
@@ -59,8 +59,8 @@ pub fn program<R: Read, W: Write, F: Write, H: Host>(
 {
     let mut input = InputStream::new(reader);
     let mut output = OutputStream::new(writer);
-    let mut told = OutputStream::new(faults);
-    program_on(alloc, words, &mut input, &mut output, &mut told, host)
+    let mut reported = OutputStream::new(faults);
+    program_on(alloc, words, &mut input, &mut output, &mut reported, host)
 }
 
 /// Does what the arguments ask for on an input of which nothing was read yet and on an output that
@@ -91,23 +91,23 @@ pub fn program_on<R: Read, W: Write, F: Write, H: Host>(
     ensures script { AsksForShell (map (λ word. word.now) words.now) → result ≢ 2 → faults.new ≡ faults.old }
 {
     let mut nobody = Nobody;
-    let program = HeardProgram {
+    let program = ObservedProgram {
         alloc,
-        listener: &mut nobody,
+        observer: &mut nobody,
     };
     program.run(words, input, output, faults, host)
 }
 
-/// The program with memory, and a listener that follows the shell's output if the script is the
+/// The program with memory, and an observer that follows the shell's output if the script is the
 /// input.
 #[derive(Drop)]
-pub struct HeardProgram<'l, L: Listener> {
+pub struct ObservedProgram<'l, L: Observer> {
     pub alloc: Global,
-    pub listener: &'l mut L,
+    pub observer: &'l mut L,
 }
 
-impl<'l, L: Listener> HeardProgram<'l, L> {
-    /// Does what `program_on` does, in the same way with every listener.
+impl<'l, L: Observer> ObservedProgram<'l, L> {
+    /// Does what `program_on` does, in the same way with every observer.
     pub fn run<R: Read, W: Write, F: Write, H: Host>(
         self,
         words: &[&str],
@@ -131,13 +131,13 @@ impl<'l, L: Listener> HeardProgram<'l, L> {
         ensures silent { (AsksToPassOver (map (λ word. word.now) words.now) → ⊥) → result ≡ 0 → faults.new ≡ faults.old }
         ensures script { AsksForShell (map (λ word. word.now) words.now) → result ≢ 2 → faults.new ≡ faults.old }
     {
-        match asked(self.alloc, words) {
+        match requested_job(self.alloc, words) {
             Ok(job) => self.do_job(job, input, output, faults, host),
             Err(fault) => report_no_job(self.alloc, fault, output, faults),
         }
     }
 
-    /// Runs a tool, and returns the exit status. If the tool has not run, the listener gets the name
+    /// Runs a tool, and returns the exit status. If the tool has not run, the observer gets the name
     /// of its file: that may be what cannot be read.
     fn run_tool<R: Read, W: Write, F: Write, H: Host>(
         self,
@@ -161,11 +161,11 @@ impl<'l, L: Listener> HeardProgram<'l, L> {
         ensures delivered { result ≡ 0 → (output.new.is_delivered ≡ true) × (output.new.has_failed ≡ false) }
         ensures silent { result ≡ 0 → faults.new ≡ faults.old }
     {
-        let HeardProgram { alloc, listener } = self;
+        let ObservedProgram { alloc, observer } = self;
         let status = job.run(alloc, input, output, faults, host);
         if status == NOT_RUN {
             if let Some(name) = job.file {
-                listener.miss(name, Err(HostFault::Device));
+                observer.miss(name, Err(HostFault::Device));
             }
         }
         status
@@ -211,7 +211,7 @@ impl<'l, L: Listener> HeardProgram<'l, L> {
                     lines: lines.as_slice(),
                     refusals: refusals_of(stops_at_refusal),
                 };
-                match job.run(alloc, input, output, host, self.listener) {
+                match job.run(alloc, input, output, host, self.observer) {
                     Ok(outcome) => exit_status(outcome),
                     Err(fault) => fault.report_on(faults),
                 }
@@ -267,9 +267,9 @@ impl<'l, L: Listener> HeardProgram<'l, L> {
                 names,
             } => {
                 let form = Form { format, leftovers };
-                let clerk = Unpacker::new(alloc, setup_of(extraction, form));
+                let task = Unpacker::new(alloc, setup_of(extraction, form));
                 SurveyJob::new(alloc, FileNames::of(&names)).run_by(
-                    clerk, input, output, faults, host,
+                    task, input, output, faults, host,
                 )
             }
             Job::Map { format, file } => {

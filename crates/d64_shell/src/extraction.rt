@@ -7,13 +7,13 @@ use cmd_files::Form;
 use program_arguments::Extraction;
 
 /// Returns the options of an extraction that the arguments give, in a form of the output.
-pub(crate) fn setup_of(asked: Extraction, form: Form) -> Setup
-    ensures { result ≡ setup_of asked form }
+pub(crate) fn setup_of(requested: Extraction, form: Form) -> Setup
+    ensures { result ≡ setup_of requested form }
 {
     Setup {
-        into: asked.into,
-        with_parts: asked.part,
-        skips: asked.skip_existing,
+        into: requested.into,
+        with_parts: requested.part,
+        skips: requested.skip_existing,
         form,
     }
 }

@@ -7,16 +7,16 @@ use d64_merge::Preference;
 use program_arguments::{DiffForm, Merging};
 
 /// What a merge of these files is asked for by the words, in a form of the output.
-pub(crate) fn merge_setup_of(asked: Merging, form: DiffForm, files: Vec<String>) -> Setup
-    ensures { result ≡ merge_setup_of asked form (map string_bytes files.items) }
+pub(crate) fn merge_setup_of(requested: Merging, form: DiffForm, files: Vec<String>) -> Setup
+    ensures { result ≡ merge_setup_of requested form (map string_bytes files.items) }
 {
     Setup {
-        out: asked.output,
+        out: requested.output,
         preference: Preference {
-            majority: asked.majority,
-            first: asked.first,
+            majority: requested.majority,
+            first: requested.first,
         },
-        plain: asked.plain,
+        plain: requested.plain,
         form,
         names: files,
     }

@@ -2,7 +2,7 @@
 //! `d64_shell`, and shows the progress of a long run.
 #![tactic(auto)]
 
-use d64_shell::{FolderHost, HeardProgram, Job, Listener, ProgramFault, job};
+use d64_shell::{FolderHost, Job, ObservedProgram, Observer, ProgramFault, job};
 use host_storage::{Retrying, SizeLimit, StandardStream};
 use program_streams::{
     MarkingWriter, ProgressLine, QuietWriter, WatchedHost, WipingWriter, WithinLimit,
@@ -93,9 +93,9 @@ fn run_program<'a, O: Write + Drop, E: Write>(
     Ok(status)
 }
 
-/// Returns the program, with this listener.
-fn program_with<'l, L: Listener>(alloc: Global, listener: &'l mut L) -> HeardProgram<'l, L> {
-    HeardProgram { alloc, listener }
+/// Returns the program, with this observer.
+fn program_with<'l, L: Observer>(alloc: Global, observer: &'l mut L) -> ObservedProgram<'l, L> {
+    ObservedProgram { alloc, observer }
 }
 
 /// Whether the arguments ask for a program on the output, as `crunch` writes it without `-o`; false

@@ -8,24 +8,24 @@ use Rattle.std.proofs.lemmas.Bool.Decides.{nat_tests}
 use Rattle.out_markup.specs.Markup.{escaped_byte, escaped_within}
 
 -- a byte that fits
-within-room : (room byte : ℕ) (text : List ℕ) → length (escaped_byte byte) ≤ room
-    → escaped_within room (byte ∷ text) ≡ escaped_byte byte ++ escaped_within (room - length (escaped_byte byte)) text
+within-limit : (limit byte : ℕ) (text : List ℕ) → length (escaped_byte byte) ≤ limit
+    → escaped_within limit (byte ∷ text) ≡ escaped_byte byte ++ escaped_within (limit - length (escaped_byte byte)) text
 unfolding escaped_within
-within-room room byte text fits =
-    let e : nat_le (length (escaped_byte byte)) room ≡ true = grind (arith, nat_tests) in
-    ap (λ (t : Bool). if t then escaped_byte byte ++ escaped_within (room - length (escaped_byte byte)) text else codes "..") e
+within-limit limit byte text fits =
+    let e : nat_le (length (escaped_byte byte)) limit ≡ true = grind (arith, nat_tests) in
+    ap (λ (t : Bool). if t then escaped_byte byte ++ escaped_within (limit - length (escaped_byte byte)) text else codes "..") e
 
 -- a byte that does not fit
-within-full : (room byte : ℕ) (text : List ℕ) → room < length (escaped_byte byte) → escaped_within room (byte ∷ text) ≡ codes ".."
+within-full : (limit byte : ℕ) (text : List ℕ) → limit < length (escaped_byte byte) → escaped_within limit (byte ∷ text) ≡ codes ".."
 unfolding escaped_within
-within-full room byte text full =
-    let e : nat_le (length (escaped_byte byte)) room ≡ false = grind (arith, nat_tests) in
-    ap (λ (t : Bool). if t then escaped_byte byte ++ escaped_within (room - length (escaped_byte byte)) text else codes "..") e
+within-full limit byte text full =
+    let e : nat_le (length (escaped_byte byte)) limit ≡ false = grind (arith, nat_tests) in
+    ap (λ (t : Bool). if t then escaped_byte byte ++ escaped_within (limit - length (escaped_byte byte)) text else codes "..") e
 
 -- nothing is left of a text
-within-end : (room : ℕ) (text : List ℕ) (index : ℕ) → length text ≤ index → escaped_within room (drop index text) ≡ []
+within-end : (limit : ℕ) (text : List ℕ) (index : ℕ) → length text ≤ index → escaped_within limit (drop index text) ≡ []
 unfolding escaped_within
-within-end room text index past = at_drop_all (escaped_within room) text index past
+within-end limit text index past = at_drop_all (escaped_within limit) text index past
 
 -- one byte more
 pub one_more : (before after whole text : List ℕ) (left next index d : ℕ) → index < length text
@@ -39,7 +39,7 @@ one_more before after whole text left next index d within fits less more so =
     ∙ append_assoc before (escaped_byte byte) (escaped_within next rest)
     ∙ ap (λ (t : List ℕ). before ++ t)
     (ap (λ (n : ℕ). escaped_byte byte ++ escaped_within n rest) less
-    ∙ sym (within-room left byte rest fits)
+    ∙ sym (within-limit left byte rest fits)
     ∙ sym (at_drop_more (escaped_within left) text index d within))
     ∙ so
 

@@ -78,8 +78,8 @@ either false one other a b = b
 
 pub no_part : NoPartMakesMarkup
 unfolding escaped_within
-no_part room [] = tt
-no_part room (byte ∷ text) =
-    let left = room - length (escaped_byte byte) in
-    either (nat_le (length (escaped_byte byte)) room) (escaped_byte byte ++ escaped_within left text) (codes "..")
+no_part limit [] = tt
+no_part limit (byte ∷ text) =
+    let left = limit - length (escaped_byte byte) in
+    either (nat_le (length (escaped_byte byte)) limit) (escaped_byte byte ++ escaped_within left text) (codes "..")
     (harmless_byte byte (escaped_within left text) (no_part left text)) (all_before_text (codes "..") [] refl tt)

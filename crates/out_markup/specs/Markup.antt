@@ -28,10 +28,10 @@ escaped_text text = flat_map escaped_byte text
 
 -- a text as it is written, as far as it fits into this many bytes; if it does not, `..` follows
 unfoldable pub escaped_within : ℕ → List ℕ → List ℕ
-escaped_within room [] = []
-escaped_within room (byte ∷ text) =
-    if nat_le (length (escaped_byte byte)) room
-    then escaped_byte byte ++ escaped_within (room - length (escaped_byte byte)) text
+escaped_within limit [] = []
+escaped_within limit (byte ∷ text) =
+    if nat_le (length (escaped_byte byte)) limit
+    then escaped_byte byte ++ escaped_within (limit - length (escaped_byte byte)) text
     else codes ".."
 
 -- at most this many bytes of a text; if it has more, `..` follows
@@ -92,4 +92,4 @@ NoNameMakesMarkup = (text : List ℕ) → IsHarmless (escaped_text text)
 
 -- nor does a name that is cut short
 abbrev pub NoPartMakesMarkup : Type 0
-NoPartMakesMarkup = (room : ℕ) (text : List ℕ) → IsHarmless (escaped_within room text)
+NoPartMakesMarkup = (limit : ℕ) (text : List ℕ) → IsHarmless (escaped_within limit text)

@@ -53,11 +53,11 @@ pub fn push_escaped(out: &mut Vec<u8>, text: &[u8]) -> Result<(), AllocError>
     Ok(())
 }
 
-/// Appends a text as far as it fits into `room` bytes, and `..` if it does not. No entity is cut.
-pub fn push_escaped_within(out: &mut Vec<u8>, room: usize, text: &[u8]) -> Result<(), AllocError>
-    ensures { OnOk result (out.new.items ≡ out.old.items ++ escaped_within room text.now) }
+/// Appends a text as far as it fits into `limit` bytes, and `..` if it does not. No entity is cut.
+pub fn push_escaped_within(out: &mut Vec<u8>, limit: usize, text: &[u8]) -> Result<(), AllocError>
+    ensures { OnOk result (out.new.items ≡ out.old.items ++ escaped_within limit text.now) }
 {
-    let mut left = room;
+    let mut left = limit;
     for byte in text {
         if escaped_len(*byte) > left {
             out.extend_from_slice(b"..")?;

@@ -11,7 +11,7 @@ use Rattle.clap.specs.Simple.{Shape, argument_words, built, label_of, names_of, 
 use Rattle.clap.specs.Walk.{Held, Names, Outcome, Rule, Step, Text, Waiting, Walk, after_flag, after_step, answers_to, arg_by_index, bundle, done, idle, long_met, long_or_other, next, nothing_held, arg_by_long, option, stop_after, plain, plain_word, positional, refused, short_or_plain, subcommand, subcommand_met, subcommand_or_other, to_positional, trailing, value, waits, walk_from, walked, walked_from, word_met}
 use Rattle.clap.specs.Lexer.{long_of, short_of}
 use Rattle.clap.proofs.OnLiterals.{clap_on_literals}
-use Rattle.program_arguments.specs.Asked.{IsOneOf, Met, subcommands}
+use Rattle.program_arguments.specs.Requested.{IsOneOf, Met, subcommands}
 use Rattle.program_arguments.specs.Commands.{d64sh}
 use Rattle.program_arguments.proofs.Filled.{found_all, found_passes}
 use Rattle.program_arguments.proofs.Parses.{met_among, none≢some, same_Some}
@@ -155,9 +155,9 @@ plainly_named : list_all is_plainly_named (built d64sh).subs ≡ true
 unfolding clap_on_literals d64sh
 plainly_named = refl
 
-tells_help : (built d64sh).top.disable_help_subcommand ≡ false
+prints_help : (built d64sh).top.disable_help_subcommand ≡ false
 unfolding clap_on_literals d64sh
-tells_help = refl
+prints_help = refl
 
 subcommands_and_help : (words : List Text) (met : Met) → subcommand_of d64sh words ≡ Some met → IsOneOf (subcommands ++ help ∷ []) met.0
 unfolding d64sh
@@ -169,6 +169,6 @@ met_is_subcommand words met none is =
     let after = argument_words d64sh words in
     let top = (built d64sh).top in
     let names = names_of (built d64sh) in
-    let elsewhere = walk_goes top tells_help names after (walk_from nothing_held) (first_none _ _ none) tt in
+    let elsewhere = walk_goes top prints_help names after (walk_from nothing_held) (first_none _ _ none) tt in
     other_than_last subcommands help met.0 (subcommands_and_help words met is)
     (entered_elsewhere (built d64sh).subs plainly_named (stop_after top.rules names after) elsewhere met is)

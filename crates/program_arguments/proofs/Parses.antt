@@ -13,10 +13,10 @@ use Rattle.clap.specs.declared.error.kind.ErrorKind.TheVariants.{OutOfMemory}
 use Rattle.clap.specs.declared.parser.matches.ArgMatches.{ArgMatches}
 use Rattle.clap.proofs.OnLiterals.{clap_on_literals}
 use Rattle.program_arguments.specs.Commands.{d64sh}
-use Rattle.program_arguments.specs.Asked.{IsFault, IsFaultOf, IsJob, IsJobOf, IsOneOf, IsToldAs, Met}
-use Rattle.program_arguments.specs.declared.asked.Job.{Job}
-use Rattle.program_arguments.specs.declared.asked.JobFault.{JobFault}
-use Rattle.program_arguments.specs.declared.asked.JobFault.TheVariants.{Words, Start, Memory, Tracks, Both, Format, Names, Null, Picture, Difference, Folder, Title, Links, Output, Dumps}
+use Rattle.program_arguments.specs.Requested.{IsFault, IsFaultOf, IsJob, IsJobOf, IsOneOf, IsReportedAs, Met}
+use Rattle.program_arguments.specs.declared.jobs.Job.{Job}
+use Rattle.program_arguments.specs.declared.jobs.JobFault.{JobFault}
+use Rattle.program_arguments.specs.declared.jobs.JobFault.TheVariants.{Words, Start, Memory, Tracks, Both, Format, Names, Null, Picture, Difference, Folder, Title, Links, Output, Dumps}
 
 pub simple_and_free : is_simple_and_free d64sh ≡ true
 unfolding clap_on_literals d64sh
@@ -85,22 +85,22 @@ module _ (command : Command) (words : List Text) (is : app_of command ≡ d64sh)
   no_fault none = sym (ap (λ a. fault_of a words) is) ∙ none
 
 -- clap's error is reported
-pub told : (words : List Text) (error : Error) (fault : JobFault) → HasKind (fault_of d64sh words) error → IsToldAs error fault → IsFault words fault
-told words error (Words carried) kind is = elim kind [ inl memory ↦ absurd (is.1 memory) | inr among ↦ subst (λ (e : Error). IsAmong (kind_of e) (fault_of d64sh words) × (kind_of e ≢ OutOfMemory)) (sym is.0) (among, is.1) ]
-told words error Start kind is = absurd is
-told words error Memory kind is = tt
-told words error Tracks kind is = absurd is
-told words error Both kind is = absurd is
-told words error Format kind is = absurd is
-told words error Names kind is = absurd is
-told words error Null kind is = absurd is
-told words error Picture kind is = absurd is
-told words error Difference kind is = absurd is
-told words error Folder kind is = absurd is
-told words error Title kind is = absurd is
-told words error Links kind is = absurd is
-told words error Output kind is = absurd is
-told words error Dumps kind is = absurd is
+pub reported : (words : List Text) (error : Error) (fault : JobFault) → HasKind (fault_of d64sh words) error → IsReportedAs error fault → IsFault words fault
+reported words error (Words carried) kind is = elim kind [ inl memory ↦ absurd (is.1 memory) | inr among ↦ subst (λ (e : Error). IsAmong (kind_of e) (fault_of d64sh words) × (kind_of e ≢ OutOfMemory)) (sym is.0) (among, is.1) ]
+reported words error Start kind is = absurd is
+reported words error Memory kind is = tt
+reported words error Tracks kind is = absurd is
+reported words error Both kind is = absurd is
+reported words error Format kind is = absurd is
+reported words error Names kind is = absurd is
+reported words error Null kind is = absurd is
+reported words error Picture kind is = absurd is
+reported words error Difference kind is = absurd is
+reported words error Folder kind is = absurd is
+reported words error Title kind is = absurd is
+reported words error Links kind is = absurd is
+reported words error Output kind is = absurd is
+reported words error Dumps kind is = absurd is
 
 -- the job of the subcommand is the job of the arguments
 module _ (words : List Text) (met : Met) (none : fault_of d64sh words ≡ []) (is : subcommand_of d64sh words ≡ Some met) where
@@ -124,6 +124,6 @@ module _ (words : List Text) (met : Met) (none : fault_of d64sh words ≡ []) (i
   refused Output asks = (none, subst (λ o. IsSomeAnd o (λ m. IsFaultOf m Output)) (sym is) asks)
   refused Dumps asks = (none, subst (λ o. IsSomeAnd o (λ m. IsFaultOf m Dumps)) (sym is) asks)
 
-pub error_told : {T : Type 0} (r : Result T JobFault) (P Q : JobFault → Type 0) → ((fault : JobFault) → P fault → Q fault) → IsErrAnd r P → IfErr r Q
-error_told (Ok job) P Q f is = tt
-error_told (Err fault) P Q f is = f fault is
+pub error_reported : {T : Type 0} (r : Result T JobFault) (P Q : JobFault → Type 0) → ((fault : JobFault) → P fault → Q fault) → IsErrAnd r P → IfErr r Q
+error_reported (Ok job) P Q f is = tt
+error_reported (Err fault) P Q f is = f fault is

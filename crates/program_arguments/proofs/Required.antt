@@ -14,7 +14,7 @@ use Rattle.clap.specs.Walk.{Row, Rule, Text, answers_to, first_of, nothing_held,
 use Rattle.clap.proofs.WalkLemmas.{both}
 use Rattle.clap.proofs.OnLiterals.{clap_on_literals}
 use Rattle.program_arguments.specs.Commands.{d64sh}
-use Rattle.program_arguments.specs.Asked.{HasValues, IsWhole, Met, requirements}
+use Rattle.program_arguments.specs.Requested.{HasValues, IsWhole, Met, requirements}
 use Rattle.program_arguments.proofs.Filled.{found_all, has_value, is_place, rows_full}
 use Rattle.program_arguments.proofs.Helps.{first_none, last_none, met_is_subcommand}
 use Rattle.program_arguments.proofs.Parses.{none≢some, same_Some}

@@ -2,7 +2,7 @@
 use Rattle.std.specs.Prelude.{◌≡◌, ◌≢◌, List, [], Option, Some, codes, string_bytes, unwrap_or}
 use Rattle.clap.specs.Words.{Row, Text, first_of}
 use Rattle.program_arguments.specs.Values.{has_flag}
-use Rattle.program_arguments.specs.declared.asked.Extraction.{Extraction}
+use Rattle.program_arguments.specs.declared.jobs.Extraction.{Extraction}
 
 -- the folder that `--into` gives, or `.` without it
 abbrev pub folder_by : List Row → Text

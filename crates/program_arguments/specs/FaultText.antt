@@ -1,7 +1,7 @@
 -- The texts of the faults of arguments.
 use Rattle.std.specs.Prelude.{List, ℕ, Option, None, Some, codes}
-use Rattle.program_arguments.specs.declared.asked.JobFault.{JobFault}
-use Rattle.program_arguments.specs.declared.asked.JobFault.TheVariants.{Words, Start, Memory, Tracks, Both, Format, Names, Null, Picture, Difference, Folder, Title, Links, Output, Dumps}
+use Rattle.program_arguments.specs.declared.jobs.JobFault.{JobFault}
+use Rattle.program_arguments.specs.declared.jobs.JobFault.TheVariants.{Words, Start, Memory, Tracks, Both, Format, Names, Null, Picture, Difference, Folder, Title, Links, Output, Dumps}
 
 -- the text of a fault; None for an error of clap's, which has its own
 abbrev pub text_of : JobFault → Option (List ℕ)

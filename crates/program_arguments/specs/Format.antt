@@ -1,12 +1,12 @@
 -- The forms of output that `--format` gives.
 use Rattle.std.specs.Prelude.{List, Option, Some, None, if◌then◌else◌, bytes_eq, codes, unwrap_or}
 use Rattle.clap.specs.Words.{Row, Text as Word, first_of}
-use Rattle.program_arguments.specs.declared.asked.Format.{Format}
-use Rattle.program_arguments.specs.declared.asked.Format.TheVariants.{Text, Json, Csv}
-use Rattle.program_arguments.specs.declared.asked.DiffForm.{DiffForm}
-use Rattle.program_arguments.specs.declared.asked.DiffForm.TheVariants as diff
-use Rattle.program_arguments.specs.declared.asked.PictureForm.{PictureForm}
-use Rattle.program_arguments.specs.declared.asked.PictureForm.TheVariants as picture
+use Rattle.program_arguments.specs.declared.jobs.Format.{Format}
+use Rattle.program_arguments.specs.declared.jobs.Format.TheVariants.{Text, Json, Csv}
+use Rattle.program_arguments.specs.declared.jobs.DiffForm.{DiffForm}
+use Rattle.program_arguments.specs.declared.jobs.DiffForm.TheVariants as diff
+use Rattle.program_arguments.specs.declared.jobs.PictureForm.{PictureForm}
+use Rattle.program_arguments.specs.declared.jobs.PictureForm.TheVariants as picture
 
 -- the word for a form: that of the option, or `text` without it
 abbrev pub form_word : List Row → Word

@@ -2,7 +2,7 @@
 use Rattle.std.specs.Prelude.{◌≡◌, List, codes}
 use Rattle.clap.specs.Words.{Row}
 use Rattle.program_arguments.specs.Values.{has_flag}
-use Rattle.program_arguments.specs.declared.asked.Leftovers.{Leftovers}
+use Rattle.program_arguments.specs.declared.jobs.Leftovers.{Leftovers}
 
 -- deleted files are wanted where `--deleted` stands in the words, and chains that no entry leads to
 -- where `--orphans` does

@@ -1,4 +1,4 @@
-pub mod Asked
+pub mod Requested
 pub mod Commands
 pub mod Extraction
 pub mod FaultText

@@ -2,7 +2,7 @@
 use Rattle.std.specs.Prelude.{◌≡◌, List, Some, codes, string_bytes}
 use Rattle.clap.specs.Words.{Row, first_of}
 use Rattle.program_arguments.specs.Values.{has_flag}
-use Rattle.program_arguments.specs.declared.asked.Merging.{Merging}
+use Rattle.program_arguments.specs.declared.jobs.Merging.{Merging}
 
 -- the dump goes to the file that `--output` gives; without read codes where `--plain` stands in the
 -- words; and where good copies differ, `--majority` and `--first` say what is taken

@@ -2,12 +2,12 @@
 use Rattle.std.specs.Prelude.{◌≡◌, ◌≢◌, ◌⊎◌, Bool, true, false, List, [], Option, None, Some, IsSome, codes, if◌then◌else◌, map, string_bytes, ⊤}
 use Rattle.clap.specs.Words.{Row, Text, first_of}
 use Rattle.program_arguments.specs.Values.{all_given, has_flag}
-use Rattle.program_arguments.specs.declared.asked.Names.{Names}
-use Rattle.program_arguments.specs.declared.asked.Names.TheVariants.{Given, Listed}
-use Rattle.program_arguments.specs.declared.asked.Separator.{Separator}
-use Rattle.program_arguments.specs.declared.asked.Separator.TheVariants.{LineFeed, Nul}
-use Rattle.program_arguments.specs.declared.asked.JobFault.{JobFault}
-use Rattle.program_arguments.specs.declared.asked.JobFault.TheVariants as fault
+use Rattle.program_arguments.specs.declared.jobs.Names.{Names}
+use Rattle.program_arguments.specs.declared.jobs.Names.TheVariants.{Given, Listed}
+use Rattle.program_arguments.specs.declared.jobs.Separator.{Separator}
+use Rattle.program_arguments.specs.declared.jobs.Separator.TheVariants.{LineFeed, Nul}
+use Rattle.program_arguments.specs.declared.jobs.JobFault.{JobFault}
+use Rattle.program_arguments.specs.declared.jobs.JobFault.TheVariants as fault
 
 -- FILE..
 abbrev pub files_by : List Row → List Text

@@ -3,9 +3,9 @@ use Rattle.std.specs.Prelude.{◌≡◌, ◌==◌, Bool, true, false, List, leng
 use Rattle.std.specs.Option.{option_map_or}
 use Rattle.clap.specs.Words.{Row, Text, first_of}
 use Rattle.program_arguments.specs.Values.{has_flag}
-use Rattle.program_arguments.specs.declared.asked.JobFault.{JobFault}
-use Rattle.program_arguments.specs.declared.asked.JobFault.TheVariants.{Title, Links, Memory}
-use Rattle.program_arguments.specs.declared.asked.Page.{Page}
+use Rattle.program_arguments.specs.declared.jobs.JobFault.{JobFault}
+use Rattle.program_arguments.specs.declared.jobs.JobFault.TheVariants.{Title, Links, Memory}
+use Rattle.program_arguments.specs.declared.jobs.Page.{Page}
 
 -- an argument is given an empty value
 abbrev pub is_left_empty : Text → List Row → Bool

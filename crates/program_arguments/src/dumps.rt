@@ -2,10 +2,10 @@
 
 ghost use Rattle.std.specs.Prelude.{IfOk, IfErr, IsSome, codes};
 ghost use Rattle.clap.specs.Words.{found_of, first_of, rows_of};
-ghost use Rattle.program_arguments.specs.Asked.{IsJobOf, IsFaultOf};
+ghost use Rattle.program_arguments.specs.Requested.{IsJobOf, IsFaultOf};
 
-use crate::asked::{Job, JobFault};
 use crate::forms::{diff_form, picture_form};
+use crate::jobs::{Job, JobFault};
 use crate::values::required_value;
 use clap::ArgMatches;
 use std::alloc::Global;

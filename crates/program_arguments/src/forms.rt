@@ -3,9 +3,9 @@
 ghost use Rattle.std.specs.Prelude.{◌≡◌, IfOk, IfErr, Some, None};
 ghost use Rattle.clap.specs.Words.{found_of, rows_of};
 ghost use Rattle.program_arguments.specs.Format.{diff_form_of, form_word, format_of, picture_form_of};
-ghost use Rattle.program_arguments.specs.declared.asked.JobFault.TheVariants.{Difference as NoDifference, Format as NoFormat, Picture as NoPicture};
+ghost use Rattle.program_arguments.specs.declared.jobs.JobFault.TheVariants.{Difference as NoDifference, Format as NoFormat, Picture as NoPicture};
 
-use crate::asked::{DiffForm, Format, JobFault, PictureForm};
+use crate::jobs::{DiffForm, Format, JobFault, PictureForm};
 use crate::values::given;
 use clap::ArgMatches;
 

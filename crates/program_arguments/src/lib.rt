@@ -2,18 +2,18 @@
 //! arguments are refused.
 #![tactic(auto)]
 
-mod asked;
 mod command;
 mod dumps;
 mod forms;
 mod help;
+mod jobs;
 mod merging;
 mod reading;
 mod surveys;
 mod tips;
 mod values;
 
-pub use asked::{
+pub use jobs::{
     DiffForm, Extraction, Format, Job, JobFault, Leftovers, Merging, Names, Page, PictureForm,
     Separator,
 };

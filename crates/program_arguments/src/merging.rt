@@ -2,13 +2,13 @@
 
 ghost use Rattle.std.specs.Prelude.{◌≡◌, ◌≢◌, ◌⊎◌, [], None, IfOk, IfErr, codes, map, string_bytes};
 ghost use Rattle.clap.specs.Words.{found_of, first_of, rows_of};
-ghost use Rattle.program_arguments.specs.Asked.{IsJobOf, IsFaultOf};
+ghost use Rattle.program_arguments.specs.Requested.{IsJobOf, IsFaultOf};
 ghost use Rattle.program_arguments.specs.Merging.{IsMergingBy};
 ghost use Rattle.program_arguments.specs.Names.{files_by};
-ghost use Rattle.program_arguments.specs.declared.asked.JobFault.TheVariants.{Dumps as no_dumps, Memory as no_memory, Output as no_output};
+ghost use Rattle.program_arguments.specs.declared.jobs.JobFault.TheVariants.{Dumps as no_dumps, Memory as no_memory, Output as no_output};
 
-use crate::asked::{Job, JobFault, Merging};
 use crate::forms::diff_form;
+use crate::jobs::{Job, JobFault, Merging};
 use crate::values::{has_flag, value, values};
 use clap::ArgMatches;
 use std::alloc::Global;

@@ -4,14 +4,14 @@ ghost use Rattle.std.specs.Prelude.{◌≡◌, IfOk, IfErr, MatchOption, codes, 
 ghost use Rattle.std.specs.Char.{is_ascii_hexdigit};
 ghost use Rattle.std.specs.List.{list_all};
 ghost use Rattle.clap.specs.Words.{found_of, first_of, kind_of, rows_of};
-ghost use Rattle.program_arguments.specs.Asked.{IsWhole, IsJob, IsJobOf, IsFault, IsFaultOf};
+ghost use Rattle.program_arguments.specs.Requested.{IsWhole, IsJob, IsJobOf, IsFault, IsFaultOf};
 ghost use Rattle.program_arguments.specs.Start.{IsAddress, address_of, IsStartBy, HasNoAddress};
 ghost use Rattle.program_arguments.specs.Tracks.{track_count, IsTracksBy, HasNoTracks};
-ghost use Rattle.program_arguments.specs.declared.asked.JobFault.TheVariants.{Start, Tracks};
+ghost use Rattle.program_arguments.specs.declared.jobs.JobFault.TheVariants.{Start, Tracks};
 
-use crate::asked::{Job, JobFault};
 use crate::command;
 use crate::dumps::{diff_job, map_job};
+use crate::jobs::{Job, JobFault};
 use crate::merging::merge_job;
 use crate::surveys::{catalogue_job, check_job, extract_job, files_job};
 use crate::tips::{message_of, with_tip};
@@ -78,7 +78,7 @@ fn program_job(alloc: Global, words: &[&str]) -> Result<Job, JobFault>
 /// Returns the error of a subcommand, with its usage if `clap` prints none, or with a tip if
 /// `shell` was probably meant otherwise.
 fn explained(alloc: Global, words: &[&str], name: &str, error: Error) -> Result<Error, AllocError>
-    ensures { IfOk result (λ told. kind_of told ≡ kind_of error) }
+    ensures { IfOk result (λ reported. kind_of reported ≡ kind_of error) }
 {
     if error.kind() == ErrorKind::InvalidValue {
         with_usage(alloc, name, &error)
@@ -90,7 +90,7 @@ fn explained(alloc: Global, words: &[&str], name: &str, error: Error) -> Result<
 /// Returns the error that an option lacks its value, with the usage of the subcommand with this
 /// name: `clap` prints no usage for that error.
 fn with_usage(alloc: Global, name: &str, error: &Error) -> Result<Error, AllocError>
-    ensures { IfOk result (λ told. kind_of told ≡ kind_of error.now) }
+    ensures { IfOk result (λ reported. kind_of reported ≡ kind_of error.now) }
 {
     let text = format!(in alloc; "{error}")?;
     command::error(alloc, name, error.kind(), message_of(text.as_str()))

@@ -2,15 +2,15 @@
 
 ghost use Rattle.std.specs.Prelude.{◌≡◌, ◌⊎◌, IfOk, IfErr, codes};
 ghost use Rattle.clap.specs.Words.{found_of, first_of, rows_of};
-ghost use Rattle.program_arguments.specs.Asked.{IsJobOf, IsFaultOf};
+ghost use Rattle.program_arguments.specs.Requested.{IsJobOf, IsFaultOf};
 ghost use Rattle.program_arguments.specs.Extraction.{HasNoFolder, IsExtractionBy};
 ghost use Rattle.program_arguments.specs.Leftovers.{IsLeftoversBy};
 ghost use Rattle.program_arguments.specs.Names.{IsNamesBy, IsNamesFault};
 ghost use Rattle.program_arguments.specs.Page.{is_left_empty, IsPageBy, IsPageFault};
-ghost use Rattle.program_arguments.specs.declared.asked.JobFault.TheVariants.{Folder, Memory};
+ghost use Rattle.program_arguments.specs.declared.jobs.JobFault.TheVariants.{Folder, Memory};
 
-use crate::asked::{Extraction, Job, JobFault, Leftovers, Names, Page, Separator};
 use crate::forms::format;
+use crate::jobs::{Extraction, Job, JobFault, Leftovers, Names, Page, Separator};
 use crate::values::{given, has_flag, value, values};
 use clap::ArgMatches;
 use std::alloc::Global;

@@ -121,7 +121,7 @@ fn tip_of(alloc: Global, intent: Intent) -> Result<String, AllocError> {
 /// they probably mean the shell: an image in place of a subcommand, or a line after an image
 /// without `-c`.
 pub(crate) fn with_tip(alloc: Global, words: &[&str], error: Error) -> Result<Error, AllocError>
-    ensures { IfOk result (λ told. kind_of told ≡ kind_of error) }
+    ensures { IfOk result (λ reported. kind_of reported ≡ kind_of error) }
 {
     let Some(intent) = intent_of(words, error.kind()) else {
         return Ok(error);

@@ -6,7 +6,7 @@ use Rattle.std.proofs.lemmas.Bool.{cases_Bool, false_from_ne_true, lt-ltb, eqb-t
 use Rattle.std.proofs.lemmas.List.{map-append, length-take, length-take-le, take-append-le, take_all}
 use Rattle.std.proofs.lemmas.List.Elements.{filter-append}
 use Rattle.std.proofs.lemmas.List.Splits.{slice_split_none, slice_split-cons_yes, slice_split-cons_no, length-slice_split}
-use Rattle.program_batch.specs.Names.{kept_name, is_name, names_in, listed_name, asked_by}
+use Rattle.program_batch.specs.Names.{kept_name, is_name, names_in, listed_name, requests_of}
 use Rattle.program_batch.specs.Lists.{IsEnded}
 
 -- a byte goes before the first part, whatever parts come after
@@ -65,16 +65,16 @@ others : (separator : ℕ) (piece : List ℕ) → All (λ byte. byte ≢ separat
 others separator piece none = λ k d within. false_from_ne_true (nat_eq separator (get_or piece k d)) (λ same. none k d within (sym (eqb-true separator (get_or piece k d) same)))
 
 -- one piece is one request if it is a name, and no request if not
-one_piece : (piece : List ℕ) (test : Bool) → is_name piece ≡ test → map listed_name (map kept_name (filter is_name (piece ∷ []))) ≡ asked_by (kept_name piece)
+one_piece : (piece : List ℕ) (test : Bool) → is_name piece ≡ test → map listed_name (map kept_name (filter is_name (piece ∷ []))) ≡ requests_of (kept_name piece)
 one_piece piece true is =
     ap (λ t. map listed_name (map kept_name (if t then piece ∷ [] else []))) is ∙ sym (ap (λ t. if t then listed_name (kept_name piece) ∷ [] else []) (is_name-kept_name piece ∙ is))
 one_piece piece false is =
     ap (λ t. map listed_name (map kept_name (if t then piece ∷ [] else []))) is ∙ sym (ap (λ t. if t then listed_name (kept_name piece) ∷ [] else []) (is_name-kept_name piece ∙ is))
 
 -- a piece without a separator gives the same requests as its kept bytes
-pub asked_by-piece : (separator : ℕ) (piece : List ℕ) → All (λ byte. byte ≢ separator) piece → map listed_name (names_in separator piece) ≡ asked_by (kept_name piece)
+pub requests_of-piece : (separator : ℕ) (piece : List ℕ) → All (λ byte. byte ≢ separator) piece → map listed_name (names_in separator piece) ≡ requests_of (kept_name piece)
 unfolding names_in
-asked_by-piece separator piece none =
+requests_of-piece separator piece none =
     ap (λ l. map listed_name (map kept_name (filter is_name l))) (slice_split_none (nat_eq separator) piece (others separator piece none))
     ∙ one_piece piece (is_name piece) refl
 
@@ -86,8 +86,8 @@ taken_push n bytes more = elim (cases_Bool (nat_le n (length bytes))) [
       let enough : n ≤ length (take n bytes) = omega (arith, length-take-le n bytes all) in
       let few : length (take n bytes) ≤ n = omega (arith, length-take-le n bytes all) in
       take-append-le n (take n bytes) more enough ∙ take_all n (take n bytes) few ∙ sym (take-append-le n bytes more all)
-  | inr room ↦
-      let few : length bytes ≤ n = search (rules, room) in
+  | inr buffer ↦
+      let few : length bytes ≤ n = search (rules, buffer) in
       ap (λ l. take n (l ++ more)) (take_all n bytes few)
 ]
 

@@ -4,17 +4,17 @@ use Rattle.host_storage.specs.Files.{HostState}
 use Rattle.host_storage.specs.declared.host.HostFault.{HostFault}
 use Rattle.program_batch.specs.Names.{File, NoFile}
 use Rattle.program_batch.specs.Reasons.{IsReason}
-use Rattle.program_batch.specs.Answers.{Answer, Conduct}
+use Rattle.program_batch.specs.Answers.{Answer, Effects}
 use Rattle.program_batch.specs.Runs.{EndsServing, EndsUnread, Halts, IsFetched, IsRead, Serves, given_by}
 use Rattle.program_batch.specs.declared.reason.Reason.{Reason}
 use Rattle.program_batch.specs.declared.report.Verdict.{Verdict}
-use Rattle.program_batch.specs.declared.desk.RunFault.{RunFault}
-use Rattle.program_batch.specs.declared.desk.RunFault.TheVariants as faults
+use Rattle.program_batch.specs.declared.batch.RunFault.{RunFault}
+use Rattle.program_batch.specs.declared.batch.RunFault.TheVariants as faults
 
 -- a file was read and processed
-pub serves_read : (conduct : Conduct) (name bytes : List ℕ) (old host new : HostState) (answer : Answer)
-    → IsRead (File name) old (Some bytes) host → conduct.does name (Some bytes) host answer new → Serves conduct (File name) old answer new
-serves_read conduct name bytes old host new answer read done = record {
+pub serves_read : (effects : Effects) (name bytes : List ℕ) (old host new : HostState) (answer : Answer)
+    → IsRead (File name) old (Some bytes) host → effects.does name (Some bytes) host answer new → Serves effects (File name) old answer new
+serves_read effects name bytes old host new answer read done = record {
   bytes = Some bytes;
   host = host;
   read = read;
@@ -26,15 +26,15 @@ serves_read conduct name bytes old host new answer read done = record {
 }
 
 -- or memory ran out while it was
-pub halts_read : (conduct : Conduct) (name bytes : List ℕ) (old host new : HostState)
-    → IsRead (File name) old (Some bytes) host → conduct.halts name (Some bytes) host new → Halts conduct (File name) old new
-halts_read conduct name bytes old host new read halted = record { bytes = Some bytes; host = host; read = read; halted = halted }
+pub halts_read : (effects : Effects) (name bytes : List ℕ) (old host new : HostState)
+    → IsRead (File name) old (Some bytes) host → effects.halts name (Some bytes) host new → Halts effects (File name) old new
+halts_read effects name bytes old host new read halted = record { bytes = Some bytes; host = host; read = read; halted = halted }
 
 -- a file that could not be read ends as its task ends
-pub ends_unread : (conduct : Conduct) (name : List ℕ) (fault : HostFault) (reason : Option Reason) (old host new : HostState) (answer : Verdict → Answer) (result : Result Verdict RunFault)
+pub ends_unread : (effects : Effects) (name : List ℕ) (fault : HostFault) (reason : Option Reason) (old host new : HostState) (answer : Verdict → Answer) (result : Result Verdict RunFault)
     → IsFetched name old (Err fault) host → given_by (Err fault) ≡ Some None → IsReason host.files name fault reason
-    → EndsUnread conduct name reason host new answer result → EndsServing conduct (File name) old new answer result
-ends_unread conduct name fault reason old host new answer (Ok verdict) fetched given is_reason ends = record {
+    → EndsUnread effects name reason host new answer result → EndsServing effects (File name) old new answer result
+ends_unread effects name fault reason old host new answer (Ok verdict) fetched given is_reason ends = record {
   bytes = None;
   host = host;
   read = (Err fault, fetched, given);
@@ -44,15 +44,15 @@ ends_unread conduct name fault reason old host new answer (Ok verdict) fetched g
   why = (fault, fetched, given, is_reason);
   is = ends.2;
 }
-ends_unread conduct name fault reason old host new answer (Err faults.Memory) fetched given is_reason ends =
+ends_unread effects name fault reason old host new answer (Err faults.Memory) fetched given is_reason ends =
     inl (record { bytes = None; host = host; read = (Err fault, fetched, given); halted = ends })
-ends_unread conduct name fault reason old host new answer (Err faults.Write) fetched given is_reason ends = absurd ends
-ends_unread conduct name fault reason old host new answer (Err faults.List) fetched given is_reason ends = absurd ends
+ends_unread effects name fault reason old host new answer (Err faults.Write) fetched given is_reason ends = absurd ends
+ends_unread effects name fault reason old host new answer (Err faults.List) fetched given is_reason ends = absurd ends
 
 -- a name that cannot be a file's was processed
-pub serves_no_file : (conduct : Conduct) (name : List ℕ) (reason : Reason) (old new : HostState) (answer : Verdict → Answer) (verdict : Verdict)
-    → EndsUnread conduct name (Some reason) old new answer (Ok verdict) → Serves conduct (NoFile name reason) old (answer verdict) new
-serves_no_file conduct name reason old new answer verdict ends = record {
+pub serves_no_file : (effects : Effects) (name : List ℕ) (reason : Reason) (old new : HostState) (answer : Verdict → Answer) (verdict : Verdict)
+    → EndsUnread effects name (Some reason) old new answer (Ok verdict) → Serves effects (NoFile name reason) old (answer verdict) new
+serves_no_file effects name reason old new answer verdict ends = record {
   bytes = None;
   host = old;
   read = (refl, refl);
@@ -64,6 +64,6 @@ serves_no_file conduct name reason old new answer verdict ends = record {
 }
 
 -- or memory ran out while it was
-pub halts_no_file : (conduct : Conduct) (name : List ℕ) (reason : Reason) (old new : HostState) (answer : Verdict → Answer)
-    → EndsUnread conduct name (Some reason) old new answer (Err faults.Memory) → Halts conduct (NoFile name reason) old new
-halts_no_file conduct name reason old new answer ends = record { bytes = None; host = old; read = (refl, refl); halted = ends }
+pub halts_no_file : (effects : Effects) (name : List ℕ) (reason : Reason) (old new : HostState) (answer : Verdict → Answer)
+    → EndsUnread effects name (Some reason) old new answer (Err faults.Memory) → Halts effects (NoFile name reason) old new
+halts_no_file effects name reason old new answer ends = record { bytes = None; host = old; read = (refl, refl); halted = ends }

@@ -21,21 +21,21 @@ Rule = List ℕ → Option (List ℕ) → Answer
 -- the effects of a task on a file with this name and these bytes (None if it cannot be read): which
 -- results it may have with which state of the host before and after, and which states if memory
 -- runs out
-pub record Conduct : Type 1 where
+pub record Effects : Type 1 where
   pub does : List ℕ → Option (List ℕ) → HostState → Answer → HostState → Type 0
   pub halts : List ℕ → Option (List ℕ) → HostState → HostState → Type 0
 
 -- a task that follows a rule leaves the host as it was
-abbrev pub by_rule : Rule → Conduct
+abbrev pub by_rule : Rule → Effects
 by_rule rule = record {
   does = λ name bytes old answer new. (answer ≡ rule name bytes) × (new ≡ old);
   halts = λ name bytes old new. new ≡ old;
 }
 
 -- a file with a clean verdict puts nothing on the standard error
-abbrev pub KeepsQuiet : Conduct → Type 0
-KeepsQuiet conduct = (name : List ℕ) (bytes : Option (List ℕ)) (old : HostState) (answer : Answer) (new : HostState)
-    → conduct.does name bytes old answer new → answer.verdict ≡ Clean → answer.complaint ≡ []
+abbrev pub KeepsQuiet : Effects → Type 0
+KeepsQuiet effects = (name : List ℕ) (bytes : Option (List ℕ)) (old : HostState) (answer : Answer) (new : HostState)
+    → effects.does name bytes old answer new → answer.verdict ≡ Clean → answer.complaint ≡ []
 
 -- by this rule a file with a clean verdict puts nothing on the standard error
 abbrev pub IsQuiet : Rule → Type 0

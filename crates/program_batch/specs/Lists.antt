@@ -3,18 +3,18 @@ use Rattle.std.specs.Prelude.{◌≡◌, ◌≢◌, ◌<◌, ◌≤◌, ℕ, Boo
 use Rattle.std.specs.Io.KnownBytes.{Consumes}
 use Rattle.script_text.specs.Input.{read_limit}
 use Rattle.program_batch.specs.Names.{kept_name, listed_name, names_in}
-use Rattle.program_batch.specs.Answers.{Conduct}
-use Rattle.program_batch.specs.Runs.{Stand, Steps, StopsIn}
-use Rattle.program_batch.specs.declared.desk.RunFault.{RunFault}
-use Rattle.program_batch.specs.declared.desk.RunFault.TheVariants as faults
+use Rattle.program_batch.specs.Answers.{Effects}
+use Rattle.program_batch.specs.Runs.{RunState, Steps, StopsIn}
+use Rattle.program_batch.specs.declared.batch.RunFault.{RunFault}
+use Rattle.program_batch.specs.declared.batch.RunFault.TheVariants as faults
 
 -- the names in these bytes of a list are processed
-abbrev pub AnswersList : Conduct → ℕ → List ℕ → Stand → Stand → Type 0
-AnswersList conduct separator bytes old new = Steps conduct (map listed_name (names_in separator bytes)) old new
+abbrev pub AnswersList : Effects → ℕ → List ℕ → RunState → RunState → Type 0
+AnswersList effects separator bytes old new = Steps effects (map listed_name (names_in separator bytes)) old new
 
 -- a run stops at one of the names in these bytes
-abbrev pub StopsInList : Conduct → ℕ → List ℕ → RunFault → Stand → Stand → Type 0
-StopsInList conduct separator bytes fault old new = StopsIn conduct (map listed_name (names_in separator bytes)) fault old new
+abbrev pub StopsInList : Effects → ℕ → List ℕ → RunFault → RunState → RunState → Type 0
+StopsInList effects separator bytes fault old new = StopsIn effects (map listed_name (names_in separator bytes)) fault old new
 
 -- there are no bytes, or they end with a separator
 abbrev pub IsEnded : ℕ → List ℕ → Type 0
@@ -22,14 +22,14 @@ IsEnded separator bytes = (bytes ≡ []) ⊎ ((before : List ℕ) × (bytes ≡ 
 
 -- how far a list has come with these bytes: the names that are ended are processed, and this is
 -- kept of the one that is not
-pub record HasCome (conduct : Conduct) (separator : ℕ) (first now : Stand) (held came : List ℕ) : Type 0 where
+pub record HasCome (effects : Effects) (separator : ℕ) (first now : RunState) (held came : List ℕ) : Type 0 where
   pub ended : List ℕ
   pub raw : List ℕ
   pub parts : ended ++ raw ≡ came
   pub is_ended : IsEnded separator ended
   pub unended : All (λ byte. byte ≢ separator) raw
   pub keeps : held ≡ kept_name raw
-  pub answered : AnswersList conduct separator ended first now
+  pub answered : AnswersList effects separator ended first now
 
 -- the most bytes of a list that is read as it comes
 abbrev pub list_limit : ℕ
@@ -45,14 +45,14 @@ abbrev pub IsCutShort : Bool → ℕ → Type 0
 IsCutShort has_failed came = (has_failed ≡ true) ⊎ (reads_limit ≤ came)
 
 -- the whole list was read, and all of its names are processed
-pub record AnswersStream (conduct : Conduct) (separator : ℕ) (reader : Option (List ℕ)) (old new : Stand) : Type 0 where
+pub record AnswersStream (effects : Effects) (separator : ℕ) (reader : Option (List ℕ)) (old new : RunState) : Type 0 where
   pub list : List ℕ
   pub all : IfSome reader (λ bytes. list ≡ bytes)
-  pub answered : AnswersList conduct separator list old new
+  pub answered : AnswersList effects separator list old new
 
 -- a list cannot be read to its end: all names that were ended before are processed, and the bytes
 -- of a read that passes the limit are ignored
-pub record LosesStream (conduct : Conduct) (separator : ℕ) (reader left : Option (List ℕ)) (has_failed : Bool) (old new : Stand) : Type 0 where
+pub record LosesStream (effects : Effects) (separator : ℕ) (reader left : Option (List ℕ)) (has_failed : Bool) (old new : RunState) : Type 0 where
   pub consumed : List ℕ
   pub lost : Consumes reader left consumed
   pub cause : IsCutShort has_failed (length consumed)
@@ -61,17 +61,17 @@ pub record LosesStream (conduct : Conduct) (separator : ℕ) (reader left : Opti
   pub parts : came ++ beyond ≡ consumed
   pub limit : (beyond ≡ []) ⊎ ((list_limit < length consumed) × (length beyond ≤ read_limit))
   pub held : List ℕ
-  pub has_come : HasCome conduct separator old new held came
+  pub has_come : HasCome effects separator old new held came
 
 -- a run stops at a name of a list that is read as it comes
-pub record StopsInStream (conduct : Conduct) (separator : ℕ) (reader : Option (List ℕ)) (fault : RunFault) (old new : Stand) : Type 0 where
+pub record StopsInStream (effects : Effects) (separator : ℕ) (reader : Option (List ℕ)) (fault : RunFault) (old new : RunState) : Type 0 where
   pub list : List ℕ
   pub all : IfSome reader (λ bytes. list ≡ bytes)
-  pub stopped : StopsInList conduct separator list fault old new
+  pub stopped : StopsInList effects separator list fault old new
 
 -- how a run over a list that is read as it comes ends; the flag says whether a read failed
-abbrev pub RunsStream : {A : Type 0} → Conduct → ℕ → Option (List ℕ) → Option (List ℕ) → Bool → Stand → Stand → Result A RunFault → Type 0
-RunsStream conduct separator reader left has_failed old new (Ok done) = AnswersStream conduct separator reader old new
-RunsStream conduct separator reader left has_failed old new (Err faults.List) = LosesStream conduct separator reader left has_failed old new
-RunsStream conduct separator reader left has_failed old new (Err faults.Write) = StopsInStream conduct separator reader faults.Write old new
-RunsStream conduct separator reader left has_failed old new (Err faults.Memory) = StopsInStream conduct separator reader faults.Memory old new
+abbrev pub RunsStream : {A : Type 0} → Effects → ℕ → Option (List ℕ) → Option (List ℕ) → Bool → RunState → RunState → Result A RunFault → Type 0
+RunsStream effects separator reader left has_failed old new (Ok done) = AnswersStream effects separator reader old new
+RunsStream effects separator reader left has_failed old new (Err faults.List) = LosesStream effects separator reader left has_failed old new
+RunsStream effects separator reader left has_failed old new (Err faults.Write) = StopsInStream effects separator reader faults.Write old new
+RunsStream effects separator reader left has_failed old new (Err faults.Memory) = StopsInStream effects separator reader faults.Memory old new

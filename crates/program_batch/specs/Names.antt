@@ -24,9 +24,9 @@ names_in separator list = map kept_name (filter is_name (slice_split (nat_eq sep
 
 -- what a run is given: a file with this name, or a name that cannot be a file's, with what is shown
 -- of it and the reason
-pub data Asked : Type 0 where
-  File : List ℕ → Asked
-  NoFile : List ℕ → Reason → Asked
+pub data Request : Type 0 where
+  File : List ℕ → Request
+  NoFile : List ℕ → Reason → Request
 
 -- a name of a list can be a file's: it is UTF-8 and not too long
 abbrev pub is_file_name : List ℕ → Bool
@@ -42,9 +42,9 @@ abbrev pub name_reason : List ℕ → Reason
 name_reason name = if nat_le (length name) name_limit then NotUtf8 else LongName
 
 -- the request for a name of a list
-abbrev pub listed_name : List ℕ → Asked
+abbrev pub listed_name : List ℕ → Request
 listed_name name = if is_file_name name then File name else NoFile (shortened_name name) (name_reason name)
 
 -- the requests for a piece of a list of which this is kept: none if it is empty
-abbrev pub asked_by : List ℕ → List Asked
-asked_by piece = if is_name piece then listed_name piece ∷ [] else []
+abbrev pub requests_of : List ℕ → List Request
+requests_of piece = if is_name piece then listed_name piece ∷ [] else []

@@ -5,15 +5,15 @@
 //! hold: a `Report` prints what there is to say of one.
 #![tactic(auto)]
 
-mod clerk;
-mod desk;
-mod list_desk;
+mod batch;
+mod list_batch;
 mod open_name;
 mod reason;
 mod report;
+mod task;
 
-pub use clerk::Clerk;
-pub use desk::{Desk, FILE_BYTES, RunFault};
-pub use list_desk::ListDesk;
+pub use batch::{Batch, FILE_BYTES, RunFault};
+pub use list_batch::ListBatch;
 pub use reason::{Reason, push_known_reason, reason_of, reason_unwritten};
-pub use report::{AnswerRoom, Report, Verdict};
+pub use report::{Report, ReportBuffer, Verdict};
+pub use task::FileTask;

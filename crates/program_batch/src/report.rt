@@ -41,20 +41,20 @@ impl Verdict {
 
 /// The result of one file, in buffers that are used for one file after another.
 #[derive(Debug, Drop)]
-pub struct AnswerRoom {
+pub struct ReportBuffer {
     /// What goes to the standard output.
     pub printed: Vec<u8>,
     /// What goes to the standard error.
     pub complaint: Vec<u8>,
 }
 
-impl AnswerRoom {
+impl ReportBuffer {
     /// Returns empty buffers, which have no memory yet.
-    pub fn new(alloc: Global) -> AnswerRoom
+    pub fn new(alloc: Global) -> ReportBuffer
         ensures printed { result.printed.items ≡ [] }
         ensures complaint { result.complaint.items ≡ [] }
     {
-        AnswerRoom {
+        ReportBuffer {
             printed: Vec::new(alloc),
             complaint: Vec::new(alloc),
         }
@@ -80,9 +80,9 @@ pub trait Report {
     ghost heading: { Self → List ℕ };
 
     /// Writes the heading, which is printed before the first result, into the buffer.
-    fn head(&mut self, room: &mut AnswerRoom) -> Result<(), AllocError>
+    fn head(&mut self, buffer: &mut ReportBuffer) -> Result<(), AllocError>
         ensures same { rule self.new ≡ rule self.old }
-        ensures heading { OnOk result (room.new.printed.items ≡ heading self.old) };
+        ensures heading { OnOk result (buffer.new.printed.items ≡ heading self.old) };
 
     /// Replaces the buffer's contents by what is printed of the file shown by `name`, with these
     /// bytes (None if it cannot be read).
@@ -90,10 +90,10 @@ pub trait Report {
         &mut self,
         name: &[u8],
         bytes: Option<&[u8]>,
-        room: &mut AnswerRoom,
+        buffer: &mut ReportBuffer,
     ) -> Result<Verdict, AllocError>
         ensures same { rule self.new ≡ rule self.old }
-        ensures answered { IfOk result (λ verdict. record { printed = room.new.printed.items; complaint = room.new.complaint.items; verdict = verdict }
+        ensures answered { IfOk result (λ verdict. record { printed = buffer.new.printed.items; complaint = buffer.new.complaint.items; verdict = verdict }
             ≡ rule self.old name.now (option_map (λ bytes. bytes.now) bytes.entry)) };
 
     // A clean result has no complaint.

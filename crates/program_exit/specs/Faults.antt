@@ -36,15 +36,15 @@ fault_of_run runs.Write = Write
 fault_of_run (runs.Memory error) = Memory
 
 -- the text of a fault, without its number if it has one
-abbrev pub fault_words : ProgramFault → List ℕ
-fault_words UnreadableWords = codes "usage: an argument is not UTF-8"
-fault_words (WrongLength length) = codes "image: wrong length "
-fault_words UnreadableImage = codes "image: cannot be read"
-fault_words UnreadableSession = codes "session: cannot be read"
-fault_words (NoSession fault) = codes "session: fault "
-fault_words Read = codes "read fault"
-fault_words Write = codes "write fault"
-fault_words Memory = codes "out of memory"
+abbrev pub fault_begin : ProgramFault → List ℕ
+fault_begin UnreadableWords = codes "usage: an argument is not UTF-8"
+fault_begin (WrongLength length) = codes "image: wrong length "
+fault_begin UnreadableImage = codes "image: cannot be read"
+fault_begin UnreadableSession = codes "session: cannot be read"
+fault_begin (NoSession fault) = codes "session: fault "
+fault_begin Read = codes "read fault"
+fault_begin Write = codes "write fault"
+fault_begin Memory = codes "out of memory"
 
 -- the number at the end of the text
 abbrev pub fault_digits : ProgramFault → List ℕ
@@ -54,16 +54,16 @@ fault_digits other = []
 
 -- the whole text of a fault
 unfoldable pub fault_text : ProgramFault → List ℕ
-fault_text fault = fault_words fault ++ fault_digits fault
+fault_text fault = fault_begin fault ++ fault_digits fault
 
 -- the line with this text and a line feed
-unfoldable pub told_line : List ℕ → List ℕ
-told_line text = codes "d64sh: " ++ text ++ codes "\n"
+unfoldable pub line_with : List ℕ → List ℕ
+line_with text = codes "d64sh: " ++ text ++ codes "\n"
 
 -- a fault with this text was reported: exit status 2, and its line, whole unless writing it failed
 abbrev pub ReportsText : List ℕ → Account → Account → ℕ → Type 0
-ReportsText text faults told status = (status ≡ 2) × Writes faults told (told_line text)
+ReportsText text faults reported status = (status ≡ 2) × Writes faults reported (line_with text)
 
 -- this fault was reported
 abbrev pub Reports : ProgramFault → Account → Account → ℕ → Type 0
-Reports fault faults told status = ReportsText (fault_text fault) faults told status
+Reports fault faults reported status = ReportsText (fault_text fault) faults reported status

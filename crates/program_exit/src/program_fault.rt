@@ -3,7 +3,7 @@ ghost use Rattle.std.specs.Prelude.{◌≡◌, ◌≤◌, ◌+◌, ◌++◌, Boo
 ghost use Rattle.arrayvec.specs.ArrayVec.{array_vec_len};
 ghost use Rattle.program_batch.specs.Runs.{account_at};
 ghost use Rattle.script_text.specs.Output.{account_of};
-ghost use Rattle.program_exit.specs.Faults.{Reports, ReportsText, fault_of_file, fault_of_image, fault_of_resume, fault_of_run, fault_text, fault_words, told_line};
+ghost use Rattle.program_exit.specs.Faults.{Reports, ReportsText, fault_of_file, fault_of_image, fault_of_resume, fault_of_run, fault_text, fault_begin, line_with};
 ghost use Rattle.program_exit.specs.declared.program_fault.ProgramFault.TheVariants.{Memory};
 
 use crate::exit_status::NOT_RUN;
@@ -71,7 +71,7 @@ impl ProgramFault {
     /// Returns the line that reports the fault, with its line feed. It takes no memory.
     #[tactic(auto, unfolding(crate::specs::Faults::fault_text))]
     fn line(self) -> ArrayVec<u8, MAX_FAULT_LINE>
-        ensures { result.items ≡ told_line (fault_text self) }
+        ensures { result.items ≡ line_with (fault_text self) }
     {
         match self {
             ProgramFault::WrongLength(length) => {
@@ -84,7 +84,7 @@ impl ProgramFault {
 
     /// Returns the text of the fault, without its number if it has one.
     fn text(self) -> &'static str
-        ensures text { result.now ≡ fault_words self }
+        ensures text { result.now ≡ fault_begin self }
         ensures fits { length result.now ≤ 36 }
     {
         match self {
@@ -124,7 +124,7 @@ pub(crate) fn report_text<F: Write>(text: &str, faults: &mut OutputStream<'_, F>
 /// Returns the line of a fault's text and the number after it.
 fn line_of(text: &str, number: &str) -> ArrayVec<u8, MAX_FAULT_LINE>
     requires { length text.now + length number.now ≤ 56 }
-    ensures { result.items ≡ told_line (text.now ++ number.now) }
+    ensures { result.items ≡ line_with (text.now ++ number.now) }
 {
     let mut line = ArrayVec::new();
     push_bytes(&mut line, b"d64sh: ");
@@ -152,7 +152,7 @@ impl From<AllocError> for ProgramFault {
 }
 
 impl From<ImageFault> for ProgramFault {
-    ghost from_gives = { λ fault told. told ≡ fault_of_image fault };
+    ghost from_gives = { λ fault reported. reported ≡ fault_of_image fault };
 
     fn from(fault: ImageFault) -> ProgramFault {
         match fault {
@@ -163,7 +163,7 @@ impl From<ImageFault> for ProgramFault {
 }
 
 impl From<ResumeFault> for ProgramFault {
-    ghost from_gives = { λ fault told. told ≡ fault_of_resume fault };
+    ghost from_gives = { λ fault reported. reported ≡ fault_of_resume fault };
 
     fn from(fault: ResumeFault) -> ProgramFault {
         match fault {
@@ -174,7 +174,7 @@ impl From<ResumeFault> for ProgramFault {
 }
 
 impl From<ShellFault> for ProgramFault {
-    ghost from_gives = { λ fault told. told ≡ fault_of_run fault };
+    ghost from_gives = { λ fault reported. reported ≡ fault_of_run fault };
 
     fn from(fault: ShellFault) -> ProgramFault {
         match fault {

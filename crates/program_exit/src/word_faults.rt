@@ -3,7 +3,7 @@ ghost use Rattle.std.specs.Prelude.{◌≡◌, OnOk, OnErr, false, true};
 ghost use Rattle.std.specs.Io.KnownBytes.{Appends};
 ghost use Rattle.script_text.specs.Output.{AppendsPart, FailsWith};
 ghost use Rattle.program_batch.specs.Runs.{account_at};
-ghost use Rattle.program_exit.specs.WordFaults.{ReportsNoJob, HasShown, HasTold};
+ghost use Rattle.program_exit.specs.WordFaults.{ReportsNoJob, HasShown, HasReported};
 
 use crate::exit_status::{ALL_ACCEPTED, NOT_RUN};
 use crate::program_fault::{ProgramFault, report_text};
@@ -29,8 +29,8 @@ pub fn report_no_job<W: Write, F: Write>(
 {
     match fault.text() {
         Some(text) => report_text(text, faults),
-        None if fault.was_asked_for() => show(alloc, &fault, output, faults),
-        None => tell(alloc, &fault, faults),
+        None if fault.is_help_or_version() => show(alloc, &fault, output, faults),
+        None => report_error(alloc, &fault, faults),
     }
 }
 
@@ -70,9 +70,9 @@ fn write_whole<W: Write>(output: &mut OutputStream<'_, W>, text: &[u8]) -> Resul
 }
 
 /// Reports what is wrong with the arguments. If a write fails, the rest of the text is dropped.
-fn tell<F: Write>(alloc: Global, fault: &JobFault, faults: &mut OutputStream<'_, F>) -> u8
+fn report_error<F: Write>(alloc: Global, fault: &JobFault, faults: &mut OutputStream<'_, F>) -> u8
     ensures faults { faults.new.writer.ghost_name ≡ faults.old.writer.ghost_name }
-    ensures told { HasTold (account_at F.contents faults.old) (account_at F.contents faults.new) result }
+    ensures reported { HasReported (account_at F.contents faults.old) (account_at F.contents faults.new) result }
     ensures status { result ≡ 2 }
 {
     let Ok(text) = format!(in alloc; "{fault}") else {

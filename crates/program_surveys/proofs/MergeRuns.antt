@@ -4,14 +4,14 @@ use Rattle.std.specs.Prelude.{slice_index_or, IfErr, String, string_bytes}
 use Rattle.std.proofs.lemmas.List.{drop_all}
 use Rattle.script_text.specs.Output.{Account}
 use Rattle.host_storage.specs.Files.{HostState}
-use Rattle.program_arguments.specs.declared.asked.DiffForm.{DiffForm}
+use Rattle.program_arguments.specs.declared.jobs.DiffForm.{DiffForm}
 use Rattle.cmd_merge.specs.Setup.{SetupView}
 use Rattle.cmd_merge.specs.Reports.{ReadingsView, with_file}
-use Rattle.program_batch.specs.Runs.{Stand}
+use Rattle.program_batch.specs.Runs.{RunState}
 use Rattle.cmd_merge.specs.Finishing.{MayHaveMade}
 use Rattle.program_surveys.specs.Merges.{ReadsFiles, CameSoFar, Merges, EndedMerge}
 use Rattle.program_surveys.specs.declared.difference_job.DifferenceFault.TheVariants.{Memory}
-use Rattle.program_surveys.specs.JobEnds.{TellsComparison, first_stand}
+use Rattle.program_surveys.specs.JobEnds.{ReportsComparison, first_state}
 use Rattle.program_exit.specs.Outside.{Outside}
 use Rattle.program_surveys.specs.declared.difference_job.DifferenceFault.{DifferenceFault}
 
@@ -50,15 +50,15 @@ pub wants_memory : {A : Type 0} (P : Type 0) (result : Result A DifferenceFault)
 wants_memory P result is holds = subst (λ (r : Result _ DifferenceFault). IfErr r (λ fault. (fault ≡ Memory) × P)) (sym is) (refl, holds)
 
 -- a merge that began with nothing amiss has ended as its run has
-pub merge_ended : (setup : SetupView) (old new : Outside) (faults told : Account) (status : ℕ) (ended : Result (Unit {0}) DifferenceFault) (first last : Stand)
-    → first ≡ first_stand old faults → Merges setup first last ended → new.reader ≡ old.reader → new.host ≡ last.host
-    → new.output ≡ last.told.output → TellsComparison ended last.told told status → EndedMerge setup old new faults told status
-merge_ended setup old new faults told status ended first last is ran reader host output tells = record {
+pub merge_ended : (setup : SetupView) (old new : Outside) (faults reported : Account) (status : ℕ) (ended : Result (Unit {0}) DifferenceFault) (first last : RunState)
+    → first ≡ first_state old faults → Merges setup first last ended → new.reader ≡ old.reader → new.host ≡ last.host
+    → new.output ≡ last.reported.output → ReportsComparison ended last.reported reported status → EndedMerge setup old new faults reported status
+merge_ended setup old new faults reported status ended first last is ran reader host output reports = record {
   ended = ended;
   last = last;
-  merged = subst (λ (s : Stand). Merges setup s last ended) is ran;
+  merged = subst (λ (s : RunState). Merges setup s last ended) is ran;
   reader = reader;
   host = host;
   output = output;
-  tells = tells;
+  reports = reports;
 }

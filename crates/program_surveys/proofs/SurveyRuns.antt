@@ -4,15 +4,15 @@ use Rattle.std.proofs.lemmas.Simd.{map-map}
 use Rattle.std.specs.Prelude.{MatchBool}
 use Rattle.script_text.specs.Output.{Account}
 use Rattle.program_batch.specs.Names.{Asked, File}
-use Rattle.program_batch.specs.Answers.{Conduct}
+use Rattle.program_batch.specs.Answers.{Effects}
 use Rattle.host_storage.specs.Files.{HostState}
-use Rattle.program_batch.specs.Runs.{Begins, Runs, Stand, stand_of, told_of}
+use Rattle.program_batch.specs.Runs.{Begins, Runs, RunState, run_state, reported_of}
 use Rattle.program_batch.specs.Lists.{RunsStream}
-use Rattle.program_batch.specs.declared.desk.RunFault.{RunFault}
-use Rattle.program_batch.specs.declared.desk.RunFault.TheVariants as stops
+use Rattle.program_batch.specs.declared.batch.RunFault.{RunFault}
+use Rattle.program_batch.specs.declared.batch.RunFault.TheVariants as stops
 use Rattle.program_batch.specs.declared.report.Verdict.{Verdict}
 use Rattle.program_batch.specs.declared.report.Verdict.TheVariants.{Clean}
-use Rattle.program_surveys.specs.JobEnds.{EndedSurvey, first_stand}
+use Rattle.program_surveys.specs.JobEnds.{EndedSurvey, first_state}
 use Rattle.program_exit.specs.Outside.{Outside}
 use Rattle.program_exit.specs.Faults.{Reports}
 use Rattle.program_exit.specs.declared.program_fault.ProgramFault.TheVariants.{Memory}
@@ -31,50 +31,50 @@ second_case true P Q is q = cc
 second_case false P Q is q = q
 
 -- a run over given names
-pub over_given : (conduct : Conduct) (names : FileNames) (given : Bor (List (String Global))) (reader : Option (List ℕ)) (has_failed : Bool) (a b : Stand) (ended : Result (Unit {0}) RunFault)
-    → names ≡ Given given → Runs conduct (map (λ name. File (string_bytes name)) given.now) a b ended → RunsOver conduct (files_in names) reader reader has_failed a b ended
-over_given conduct names given reader has_failed a b ended is ran =
-    let whole : RunsOver conduct (files_in (Given given)) reader reader has_failed a b ended =
-    (refl, subst (λ (l : List Asked). Runs conduct l a b ended) (sym (map-map File string_bytes given.now)) ran) in
-    subst (λ (n : FileNames). RunsOver conduct (files_in n) reader reader has_failed a b ended) (sym is) whole
+pub over_given : (effects : Effects) (names : FileNames) (given : Bor (List (String Global))) (reader : Option (List ℕ)) (has_failed : Bool) (a b : RunState) (ended : Result (Unit {0}) RunFault)
+    → names ≡ Given given → Runs effects (map (λ name. File (string_bytes name)) given.now) a b ended → RunsOver effects (files_in names) reader reader has_failed a b ended
+over_given effects names given reader has_failed a b ended is ran =
+    let whole : RunsOver effects (files_in (Given given)) reader reader has_failed a b ended =
+    (refl, subst (λ (l : List Asked). Runs effects l a b ended) (sym (map-map File string_bytes given.now)) ran) in
+    subst (λ (n : FileNames). RunsOver effects (files_in n) reader reader has_failed a b ended) (sym is) whole
 
 -- a run over the names of the input
-pub over_input : (conduct : Conduct) (names : FileNames) (list : Bor (List ℕ)) (separator byte : ℕ) (reader left : Option (List ℕ)) (has_failed : Bool) (a b : Stand) (ended : Result (Unit {0}) RunFault)
-    → names ≡ Listed list separator → is_input list.now ≡ true → byte ≡ separator → RunsStream conduct byte reader left has_failed a b ended
-    → RunsOver conduct (files_in names) reader left has_failed a b ended
-over_input conduct names list separator byte reader left has_failed a b ended is input bytes ran =
-    let whole : RunsOver conduct (files_in (Listed list separator)) reader left has_failed a b ended =
-    first_case (is_input list.now) _ _ input (subst (λ (s : ℕ). RunsStream conduct s reader left has_failed a b ended) bytes ran) in
-    subst (λ (n : FileNames). RunsOver conduct (files_in n) reader left has_failed a b ended) (sym is) whole
+pub over_input : (effects : Effects) (names : FileNames) (list : Bor (List ℕ)) (separator byte : ℕ) (reader left : Option (List ℕ)) (has_failed : Bool) (a b : RunState) (ended : Result (Unit {0}) RunFault)
+    → names ≡ Listed list separator → is_input list.now ≡ true → byte ≡ separator → RunsStream effects byte reader left has_failed a b ended
+    → RunsOver effects (files_in names) reader left has_failed a b ended
+over_input effects names list separator byte reader left has_failed a b ended is input bytes ran =
+    let whole : RunsOver effects (files_in (Listed list separator)) reader left has_failed a b ended =
+    first_case (is_input list.now) _ _ input (subst (λ (s : ℕ). RunsStream effects s reader left has_failed a b ended) bytes ran) in
+    subst (λ (n : FileNames). RunsOver effects (files_in n) reader left has_failed a b ended) (sym is) whole
 
 -- a run over the names of a list of the host
-pub over_file : (conduct : Conduct) (names : FileNames) (list : Bor (List ℕ)) (separator byte : ℕ) (reader : Option (List ℕ)) (has_failed : Bool) (a b : Stand) (ended : Result (Unit {0}) RunFault)
-    → names ≡ Listed list separator → is_input list.now ≡ false → byte ≡ separator → RunsListFile conduct byte list.now a b ended
-    → RunsOver conduct (files_in names) reader reader has_failed a b ended
-over_file conduct names list separator byte reader has_failed a b ended is file bytes ran =
-    let whole : RunsOver conduct (files_in (Listed list separator)) reader reader has_failed a b ended =
-    second_case (is_input list.now) _ _ file (refl, subst (λ (s : ℕ). RunsListFile conduct s list.now a b ended) bytes ran) in
-    subst (λ (n : FileNames). RunsOver conduct (files_in n) reader reader has_failed a b ended) (sym is) whole
+pub over_file : (effects : Effects) (names : FileNames) (list : Bor (List ℕ)) (separator byte : ℕ) (reader : Option (List ℕ)) (has_failed : Bool) (a b : RunState) (ended : Result (Unit {0}) RunFault)
+    → names ≡ Listed list separator → is_input list.now ≡ false → byte ≡ separator → RunsListFile effects byte list.now a b ended
+    → RunsOver effects (files_in names) reader reader has_failed a b ended
+over_file effects names list separator byte reader has_failed a b ended is file bytes ran =
+    let whole : RunsOver effects (files_in (Listed list separator)) reader reader has_failed a b ended =
+    second_case (is_input list.now) _ _ file (refl, subst (λ (s : ℕ). RunsListFile effects s list.now a b ended) bytes ran) in
+    subst (λ (n : FileNames). RunsOver effects (files_in n) reader reader has_failed a b ended) (sym is) whole
 
 -- a survey that was begun goes on as its run
-pub surveyed : (conduct same : Conduct) (heading : List ℕ) (files : SurveyFiles) (reader left : Option (List ℕ)) (has_failed : Bool) (host : HostState) (before after error : Account) (worst : Verdict) (last : Stand)
+pub surveyed : (effects same : Effects) (heading : List ℕ) (files : SurveyFiles) (reader left : Option (List ℕ)) (has_failed : Bool) (host : HostState) (before after error : Account) (worst : Verdict) (last : RunState)
     (done : Unit {0}) (ended : Result (Unit {0}) RunFault)
-    → Begins {A = Unit {0}} heading before after (Ok done) → worst ≡ Clean → same ≡ conduct → RunsOver same files reader left has_failed (stand_of host (told_of after error worst)) last ended
-    → Surveys conduct heading files reader left has_failed (stand_of host (told_of before error Clean)) last ended
-surveyed conduct same heading files reader left has_failed host before after error worst last done ended begins clean is_same ran = record {
+    → Begins {A = Unit {0}} heading before after (Ok done) → worst ≡ Clean → same ≡ effects → RunsOver same files reader left has_failed (run_state host (reported_of after error worst)) last ended
+    → Surveys effects heading files reader left has_failed (run_state host (reported_of before error Clean)) last ended
+surveyed effects same heading files reader left has_failed host before after error worst last done ended begins clean is_same ran = record {
   begun = Ok done;
   output = after;
   begins = begins;
-  goes_on = subst (λ (r : Conduct). RunsOver r files reader left has_failed (stand_of host (told_of after error Clean)) last ended) is_same
-      (subst (λ (w : Verdict). RunsOver same files reader left has_failed (stand_of host (told_of after error w)) last ended) clean ran);
+  goes_on = subst (λ (r : Effects). RunsOver r files reader left has_failed (run_state host (reported_of after error Clean)) last ended) is_same
+      (subst (λ (w : Verdict). RunsOver same files reader left has_failed (run_state host (reported_of after error w)) last ended) clean ran);
 }
 
 -- if memory runs out before a survey begins, it has ended with nothing printed
-pub not_begun : (conduct : Conduct) (heading : List ℕ) (files : SurveyFiles) (old : Outside) (faults told : Account) (status : ℕ)
-    → Reports Memory faults told status → EndedSurvey conduct heading files old old faults told status
-not_begun conduct heading files old faults told status reports = record {
+pub not_begun : (effects : Effects) (heading : List ℕ) (files : SurveyFiles) (old : Outside) (faults reported : Account) (status : ℕ)
+    → Reports Memory faults reported status → EndedSurvey effects heading files old old faults reported status
+not_begun effects heading files old faults reported status reports = record {
   ended = Err stops.Memory;
-  last = first_stand old faults;
+  last = first_state old faults;
   surveyed = record {
     begun = Err stops.Memory;
     output = old.output;
@@ -83,5 +83,5 @@ not_begun conduct heading files old faults told status reports = record {
   };
   host = refl;
   output = refl;
-  tells = reports;
+  reports = reports;
 }

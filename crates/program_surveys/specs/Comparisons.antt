@@ -3,7 +3,7 @@ use Rattle.std.specs.Prelude.{◌≡◌, ℕ, List, None, Result, Ok, Err, ◌�
 use Rattle.host_storage.specs.Files.{HostState}
 use Rattle.program_batch.specs.Names.{File}
 use Rattle.program_batch.specs.Answers.{Answer}
-use Rattle.program_batch.specs.Runs.{IsCut, IsFetched, IsTold, SaysWhy, Stand}
+use Rattle.program_batch.specs.Runs.{IsCut, IsFetched, IsReported, SaysWhy, RunState}
 use Rattle.cmd_diff.specs.Differences.{Contents}
 use Rattle.program_surveys.specs.declared.difference_job.DifferenceFault.{DifferenceFault}
 use Rattle.program_surveys.specs.declared.difference_job.DifferenceFault.TheVariants.{Write, Memory}
@@ -25,18 +25,18 @@ pub record AreRead (old_name new_name : List ℕ) (first : HostState) (old new :
   pub new_read : IsReadAs new_name middle new last
 
 -- both files were read, and the rule's result for them was written
-pub record AreCompared (rule : PairRule) (old_name new_name : List ℕ) (first last : Stand) : Type 0 where
+pub record AreCompared (rule : PairRule) (old_name new_name : List ℕ) (first last : RunState) : Type 0 where
   pub old : Contents
   pub new : Contents
   pub read : AreRead old_name new_name first.host old new last.host
-  pub told : IsTold (rule old_name old new_name new) first.told last.told
+  pub reported : IsReported (rule old_name old new_name new) first.reported last.reported
 
 -- both files were read, and the output failed while the result was written
-pub record AreCut (rule : PairRule) (old_name new_name : List ℕ) (first last : Stand) : Type 0 where
+pub record AreCut (rule : PairRule) (old_name new_name : List ℕ) (first last : RunState) : Type 0 where
   pub old : Contents
   pub new : Contents
   pub read : AreRead old_name new_name first.host old new last.host
-  pub told : IsCut (rule old_name old new_name new) first.told last.told
+  pub reported : IsCut (rule old_name old new_name new) first.reported last.reported
 
 -- how far the reading of the files has come: no file is read, or the old one, or both
 abbrev pub AreReadSoFar : List ℕ → List ℕ → HostState → HostState → Type 0
@@ -47,7 +47,7 @@ AreReadSoFar old_name new_name first last =
 
 -- how a comparison ends: both files are read and the result is written, unless the output failed,
 -- or memory ran out and nothing was written
-abbrev pub Compares : {A : Type 0} → PairRule → List ℕ → List ℕ → Stand → Stand → Result A DifferenceFault → Type 0
+abbrev pub Compares : {A : Type 0} → PairRule → List ℕ → List ℕ → RunState → RunState → Result A DifferenceFault → Type 0
 Compares rule old_name new_name first last (Ok done) = AreCompared rule old_name new_name first last
 Compares rule old_name new_name first last (Err Write) = AreCut rule old_name new_name first last
-Compares rule old_name new_name first last (Err Memory) = AreReadSoFar old_name new_name first.host last.host × (last.told ≡ first.told)
+Compares rule old_name new_name first last (Err Memory) = AreReadSoFar old_name new_name first.host last.host × (last.reported ≡ first.reported)

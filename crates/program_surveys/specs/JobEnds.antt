@@ -4,12 +4,12 @@ use Rattle.host_storage.specs.Files.{Files}
 use Rattle.host_storage.specs.declared.host.HostFault.TheVariants.{Device}
 use Rattle.script_text.specs.Output.{Account, Writes}
 use Rattle.out_messages.specs.FaultLines.{unread_line}
-use Rattle.program_batch.specs.Answers.{Conduct, status_of as verdict_status}
-use Rattle.program_batch.specs.Runs.{Stand, Told, stand_of, told_of}
+use Rattle.program_batch.specs.Answers.{Effects, status_of as verdict_status}
+use Rattle.program_batch.specs.Runs.{RunState, Reported, run_state, reported_of}
 use Rattle.program_batch.specs.Reasons.{IsReason, with_known_reason}
 use Rattle.program_batch.specs.declared.reason.Reason.{Reason}
-use Rattle.program_batch.specs.declared.desk.RunFault.{RunFault}
-use Rattle.program_batch.specs.declared.desk.RunFault.TheVariants as run_faults
+use Rattle.program_batch.specs.declared.batch.RunFault.{RunFault}
+use Rattle.program_batch.specs.declared.batch.RunFault.TheVariants as run_faults
 use Rattle.program_batch.specs.declared.report.Verdict.TheVariants.{Clean}
 use Rattle.program_surveys.specs.SurveyFiles.{SurveyFiles, list_name}
 use Rattle.program_surveys.specs.Surveys.{Surveys, is_input}
@@ -27,45 +27,45 @@ IsListReason files list reason = MatchBool (is_input list) (reason ≡ None) (Is
 
 -- how the fault of a survey is reported if the host has these files: by its line, with status 2;
 -- the line for a list has the reason, if one is known
-abbrev pub TellsFault : Option Files → List ℕ → RunFault → Account → Account → ℕ → Type 0
-TellsFault files list run_faults.List error told status =
-    ((reason : Option Reason) × IsListReason files list reason × (status ≡ 2) × Writes error told (with_known_reason reason (unread_line list)))
-    ⊎ Reports Memory error told status
-TellsFault files list run_faults.Write error told status = Reports Write error told status
-TellsFault files list run_faults.Memory error told status = Reports Memory error told status
+abbrev pub ReportsFault : Option Files → List ℕ → RunFault → Account → Account → ℕ → Type 0
+ReportsFault files list run_faults.List error reported status =
+    ((reason : Option Reason) × IsListReason files list reason × (status ≡ 2) × Writes error reported (with_known_reason reason (unread_line list)))
+    ⊎ Reports Memory error reported status
+ReportsFault files list run_faults.Write error reported status = Reports Write error reported status
+ReportsFault files list run_faults.Memory error reported status = Reports Memory error reported status
 
 -- how the end of a survey with this result is reported: by the status of the worst verdict, or as a
 -- fault
-abbrev pub TellsEnd : Option Files → List ℕ → Result (Unit {0}) RunFault → Told → Account → ℕ → Type 0
-TellsEnd files list (Ok done) old told status = (told ≡ old.error) × (status ≡ verdict_status old.worst)
-TellsEnd files list (Err fault) old told status = TellsFault files list fault old.error told status
+abbrev pub ReportsEnd : Option Files → List ℕ → Result (Unit {0}) RunFault → Reported → Account → ℕ → Type 0
+ReportsEnd files list (Ok done) old reported status = (reported ≡ old.error) × (status ≡ verdict_status old.worst)
+ReportsEnd files list (Err fault) old reported status = ReportsFault files list fault old.error reported status
 
 -- the state in which a survey or a comparison begins: that of the program, with a clean verdict
-abbrev pub first_stand : Outside → Account → Stand
-first_stand old faults = stand_of old.host (told_of old.output faults Clean)
+abbrev pub first_state : Outside → Account → RunState
+first_state old faults = run_state old.host (reported_of old.output faults Clean)
 
 -- a survey has ended
-pub record EndedSurvey (conduct : Conduct) (heading : List ℕ) (files : SurveyFiles) (old new : Outside) (faults told : Account) (status : ℕ) : Type 0 where
+pub record EndedSurvey (effects : Effects) (heading : List ℕ) (files : SurveyFiles) (old new : Outside) (faults reported : Account) (status : ℕ) : Type 0 where
   pub ended : Result (Unit {0}) RunFault
-  pub last : Stand
-  pub surveyed : Surveys conduct heading files old.reader new.reader new.reading.has_failed (first_stand old faults) last ended
+  pub last : RunState
+  pub surveyed : Surveys effects heading files old.reader new.reader new.reading.has_failed (first_state old faults) last ended
   pub host : new.host ≡ last.host
-  pub output : new.output ≡ last.told.output
-  pub tells : TellsEnd last.host.files (list_name files) ended last.told told status
+  pub output : new.output ≡ last.reported.output
+  pub reports : ReportsEnd last.host.files (list_name files) ended last.reported reported status
 
 -- how the end of a comparison with this result is reported: by the status of the verdict, or by the
 -- line of a fault
-abbrev pub TellsComparison : Result (Unit {0}) DifferenceFault → Told → Account → ℕ → Type 0
-TellsComparison (Ok done) old told status = (told ≡ old.error) × (status ≡ verdict_status old.worst)
-TellsComparison (Err comparisons.Write) old told status = Reports Write old.error told status
-TellsComparison (Err comparisons.Memory) old told status = Reports Memory old.error told status
+abbrev pub ReportsComparison : Result (Unit {0}) DifferenceFault → Reported → Account → ℕ → Type 0
+ReportsComparison (Ok done) old reported status = (reported ≡ old.error) × (status ≡ verdict_status old.worst)
+ReportsComparison (Err comparisons.Write) old reported status = Reports Write old.error reported status
+ReportsComparison (Err comparisons.Memory) old reported status = Reports Memory old.error reported status
 
 -- a comparison has ended, which read nothing of the input
-pub record EndedComparison (rule : PairRule) (old_name new_name : List ℕ) (old new : Outside) (faults told : Account) (status : ℕ) : Type 0 where
+pub record EndedComparison (rule : PairRule) (old_name new_name : List ℕ) (old new : Outside) (faults reported : Account) (status : ℕ) : Type 0 where
   pub ended : Result (Unit {0}) DifferenceFault
-  pub last : Stand
-  pub compared : Compares rule old_name new_name (first_stand old faults) last ended
+  pub last : RunState
+  pub compared : Compares rule old_name new_name (first_state old faults) last ended
   pub reader : new.reader ≡ old.reader
   pub host : new.host ≡ last.host
-  pub output : new.output ≡ last.told.output
-  pub tells : TellsComparison ended last.told told status
+  pub output : new.output ≡ last.reported.output
+  pub reports : ReportsComparison ended last.reported reported status

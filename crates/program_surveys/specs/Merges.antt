@@ -5,14 +5,14 @@ use Rattle.host_storage.specs.Files.{HostState}
 use Rattle.host_storage.specs.Folders.{Looks}
 use Rattle.host_storage.specs.declared.host.FolderFault.{FolderFault}
 use Rattle.program_batch.specs.Answers.{Answer}
-use Rattle.program_batch.specs.Runs.{IsCut, IsTold, Stand}
-use Rattle.program_arguments.specs.declared.asked.DiffForm.{DiffForm}
+use Rattle.program_batch.specs.Runs.{IsCut, IsReported, RunState}
+use Rattle.program_arguments.specs.declared.jobs.DiffForm.{DiffForm}
 use Rattle.cmd_diff.specs.Differences.{Contents}
 use Rattle.cmd_merge.specs.Setup.{SetupView}
 use Rattle.cmd_merge.specs.Reports.{ReadingsView, no_readings, with_file, present_answer}
 use Rattle.cmd_merge.specs.Finishing.{Finishes, IsMade}
 use Rattle.program_surveys.specs.Comparisons.{IsReadAs}
-use Rattle.program_surveys.specs.JobEnds.{TellsComparison, first_stand}
+use Rattle.program_surveys.specs.JobEnds.{ReportsComparison, first_state}
 use Rattle.program_surveys.specs.declared.difference_job.DifferenceFault.{DifferenceFault}
 use Rattle.program_surveys.specs.declared.difference_job.DifferenceFault.TheVariants.{Write, Memory}
 use Rattle.program_exit.specs.Outside.{Outside}
@@ -43,17 +43,17 @@ CameSoFar setup old new =
     × ((new ≡ middle) ⊎ ((bytes : List ℕ) × (result : Result (Unit {0}) FolderFault) × IsMade setup.out bytes middle result new))
 
 -- how a merge ends: its answer was told, or the output failed while it was, or there was no memory
-abbrev pub Merges : {A : Type 0} → SetupView → Stand → Stand → Result A DifferenceFault → Type 0
-Merges setup first last (Ok done) = (answer : Answer) × AnswersMerge setup first.host answer last.host × IsTold answer first.told last.told
-Merges setup first last (Err Write) = (answer : Answer) × AnswersMerge setup first.host answer last.host × IsCut answer first.told last.told
-Merges setup first last (Err Memory) = CameSoFar setup first.host last.host × (last.told ≡ first.told)
+abbrev pub Merges : {A : Type 0} → SetupView → RunState → RunState → Result A DifferenceFault → Type 0
+Merges setup first last (Ok done) = (answer : Answer) × AnswersMerge setup first.host answer last.host × IsReported answer first.reported last.reported
+Merges setup first last (Err Write) = (answer : Answer) × AnswersMerge setup first.host answer last.host × IsCut answer first.reported last.reported
+Merges setup first last (Err Memory) = CameSoFar setup first.host last.host × (last.reported ≡ first.reported)
 
 -- a merge has ended, for which nothing of the input was read
-pub record EndedMerge (setup : SetupView) (old new : Outside) (faults told : Account) (status : ℕ) : Type 0 where
+pub record EndedMerge (setup : SetupView) (old new : Outside) (faults reported : Account) (status : ℕ) : Type 0 where
   pub ended : Result (Unit {0}) DifferenceFault
-  pub last : Stand
-  pub merged : Merges setup (first_stand old faults) last ended
+  pub last : RunState
+  pub merged : Merges setup (first_state old faults) last ended
   pub reader : new.reader ≡ old.reader
   pub host : new.host ≡ last.host
-  pub output : new.output ≡ last.told.output
-  pub tells : TellsComparison ended last.told told status
+  pub output : new.output ≡ last.reported.output
+  pub reports : ReportsComparison ended last.reported reported status

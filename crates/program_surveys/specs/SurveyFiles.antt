@@ -1,9 +1,9 @@
 -- The files of a survey.
 use Rattle.std.specs.Prelude.{ℕ, List, [], map, string_bytes}
-use Rattle.program_arguments.specs.declared.asked.Names.{Names}
-use Rattle.program_arguments.specs.declared.asked.Names.TheVariants.{Given, Listed}
-use Rattle.program_arguments.specs.declared.asked.Separator.{Separator}
-use Rattle.program_arguments.specs.declared.asked.Separator.TheVariants.{LineFeed, Nul}
+use Rattle.program_arguments.specs.declared.jobs.Names.{Names}
+use Rattle.program_arguments.specs.declared.jobs.Names.TheVariants.{Given, Listed}
+use Rattle.program_arguments.specs.declared.jobs.Separator.{Separator}
+use Rattle.program_arguments.specs.declared.jobs.Separator.TheVariants.{LineFeed, Nul}
 use Rattle.program_surveys.specs.declared.file_names.FileNames.{FileNames}
 use Rattle.program_surveys.specs.declared.file_names.FileNames.TheVariants as code
 

@@ -4,13 +4,13 @@ use Rattle.host_storage.specs.declared.host.HostFault.{HostFault}
 use Rattle.host_storage.specs.declared.host.HostFault.TheVariants as refusals
 use Rattle.script_text.specs.Output.{Account}
 use Rattle.program_batch.specs.Names.{File}
-use Rattle.program_batch.specs.Answers.{Conduct}
+use Rattle.program_batch.specs.Answers.{Effects}
 use Rattle.host_storage.specs.Files.{HostState}
 use Rattle.host_storage.specs.Host.{CountsDevice, Opens, one_more_failure}
-use Rattle.program_batch.specs.Runs.{Begins, Runs, Stand, stand_of, told_of}
+use Rattle.program_batch.specs.Runs.{Begins, Runs, RunState, run_state, reported_of}
 use Rattle.program_batch.specs.Lists.{RunsStream}
-use Rattle.program_batch.specs.declared.desk.RunFault.{RunFault}
-use Rattle.program_batch.specs.declared.desk.RunFault.TheVariants as faults
+use Rattle.program_batch.specs.declared.batch.RunFault.{RunFault}
+use Rattle.program_batch.specs.declared.batch.RunFault.TheVariants as faults
 use Rattle.program_batch.specs.declared.report.Verdict.{Verdict}
 use Rattle.program_surveys.specs.SurveyFiles.{SurveyFiles, Named, ListedIn}
 
@@ -37,38 +37,38 @@ after_reading false host = host
 -- how a run ends over the names of a list of the host that was opened with this result: the list is
 -- read as it comes, and some of it may be left; a failed read ends the run, and is counted; or no
 -- file is processed
-abbrev pub RunsOpened : {A : Type 0} → Conduct → ℕ → Result (Option (List ℕ)) HostFault → Stand → Stand → Result A RunFault → Type 0
-RunsOpened conduct separator (Ok reader) first last result =
-    (left : Option (List ℕ)) × (has_failed : Bool) × (read : Stand) × RunsStream conduct separator reader left has_failed first read result
-    × (has_failed ≡ true → result ≡ Err faults.List) × (last ≡ stand_of (after_reading has_failed read.host) read.told)
-RunsOpened conduct separator (Err fault) first last result = (result ≡ Err (fault_of_list fault)) × (last ≡ first)
+abbrev pub RunsOpened : {A : Type 0} → Effects → ℕ → Result (Option (List ℕ)) HostFault → RunState → RunState → Result A RunFault → Type 0
+RunsOpened effects separator (Ok reader) first last result =
+    (left : Option (List ℕ)) × (has_failed : Bool) × (read : RunState) × RunsStream effects separator reader left has_failed first read result
+    × (has_failed ≡ true → result ≡ Err faults.List) × (last ≡ run_state (after_reading has_failed read.host) read.reported)
+RunsOpened effects separator (Err fault) first last result = (result ≡ Err (fault_of_list fault)) × (last ≡ first)
 
 -- how a run over the names of a list of the host ends
-abbrev pub RunsListFile : {A : Type 0} → Conduct → ℕ → List ℕ → Stand → Stand → Result A RunFault → Type 0
-RunsListFile conduct separator list first last result =
-    (answer : Result (Option (List ℕ)) HostFault) × (host : HostState) × IsOpened list first.host answer host × RunsOpened conduct separator answer (stand_of host first.told) last result
+abbrev pub RunsListFile : {A : Type 0} → Effects → ℕ → List ℕ → RunState → RunState → Result A RunFault → Type 0
+RunsListFile effects separator list first last result =
+    (answer : Result (Option (List ℕ)) HostFault) × (host : HostState) × IsOpened list first.host answer host × RunsOpened effects separator answer (run_state host first.reported) last result
 
 -- how a run over the files of a survey ends, what it leaves of the input, and whether a read of the
 -- input has failed
-abbrev pub RunsOver : {A : Type 0} → Conduct → SurveyFiles → Option (List ℕ) → Option (List ℕ) → Bool → Stand → Stand → Result A RunFault → Type 0
-RunsOver conduct (Named names) reader left has_failed first last result = (left ≡ reader) × Runs conduct (map File names) first last result
-RunsOver conduct (ListedIn list separator) reader left has_failed first last result =
+abbrev pub RunsOver : {A : Type 0} → Effects → SurveyFiles → Option (List ℕ) → Option (List ℕ) → Bool → RunState → RunState → Result A RunFault → Type 0
+RunsOver effects (Named names) reader left has_failed first last result = (left ≡ reader) × Runs effects (map File names) first last result
+RunsOver effects (ListedIn list separator) reader left has_failed first last result =
     MatchBool (is_input list)
-    (RunsStream conduct separator reader left has_failed first last result)
-    ((left ≡ reader) × RunsListFile conduct separator list first last result)
+    (RunsStream effects separator reader left has_failed first last result)
+    ((left ≡ reader) × RunsListFile effects separator list first last result)
 
 -- how a survey goes on after the heading: over the files, or not at all if the heading was not
 -- printed
-abbrev pub GoesOn : {A B : Type 0} → Conduct → SurveyFiles → Option (List ℕ) → Option (List ℕ) → Bool → Result B RunFault → Stand → Stand → Result A RunFault → Type 0
-GoesOn conduct files reader left has_failed (Ok done) first last result = RunsOver conduct files reader left has_failed first last result
-GoesOn conduct files reader left has_failed (Err fault) first last result = (left ≡ reader) × (last ≡ first) × (result ≡ Err fault)
+abbrev pub GoesOn : {A B : Type 0} → Effects → SurveyFiles → Option (List ℕ) → Option (List ℕ) → Bool → Result B RunFault → RunState → RunState → Result A RunFault → Type 0
+GoesOn effects files reader left has_failed (Ok done) first last result = RunsOver effects files reader left has_failed first last result
+GoesOn effects files reader left has_failed (Err fault) first last result = (left ≡ reader) × (last ≡ first) × (result ≡ Err fault)
 
 -- how a survey ends: the heading is printed, and then the files are processed
-pub record Surveys (conduct : Conduct) (heading : List ℕ) (files : SurveyFiles) (reader left : Option (List ℕ)) (has_failed : Bool) (first last : Stand) (ended : Result (Unit {0}) RunFault) : Type 0 where
+pub record Surveys (effects : Effects) (heading : List ℕ) (files : SurveyFiles) (reader left : Option (List ℕ)) (has_failed : Bool) (first last : RunState) (ended : Result (Unit {0}) RunFault) : Type 0 where
   pub begun : Result (Unit {0}) RunFault
   pub output : Account
-  pub begins : Begins heading first.told.output output begun
-  pub goes_on : GoesOn conduct files reader left has_failed begun (stand_of first.host (told_of output first.told.error first.told.worst)) last ended
+  pub begins : Begins heading first.reported.output output begun
+  pub goes_on : GoesOn effects files reader left has_failed begun (run_state first.host (reported_of output first.reported.error first.reported.worst)) last ended
 
 -- the result of a survey that ended with this: the worst verdict, or the fault
 abbrev pub Says : Verdict → Result (Unit {0}) RunFault → Result Verdict RunFault → Type 0

@@ -1,7 +1,7 @@
 //! The run of `diff`: the comparison of two files.
 ghost use Rattle.std.specs.Prelude.{◌≡◌, ◌≤◌, ℕ, List, Option, IfErr, IfOk, OnOk, true, false};
 ghost use Rattle.script_text.specs.Input.{Reading};
-ghost use Rattle.program_batch.specs.Runs.{account_at, stand_at};
+ghost use Rattle.program_batch.specs.Runs.{account_at, run_state_at};
 ghost use Rattle.program_batch.specs.declared.report.Verdict.TheVariants.{Clean};
 ghost use Rattle.cmd_diff.specs.Differences.{contents_by, difference_rule};
 ghost use Rattle.program_surveys.specs.Comparisons.{Compares, IsReadAs};
@@ -11,7 +11,7 @@ ghost use Rattle.program_exit.specs.Outside.{outside_of};
 use cmd_diff::DifferenceReport;
 use host_storage::{Host, HostFault};
 use program_arguments::DiffForm;
-use program_batch::{Desk, FILE_BYTES, Reason, reason_of};
+use program_batch::{Batch, FILE_BYTES, Reason, reason_of};
 use program_exit::ProgramFault;
 use script_text::output::{OutputStream, WriteFault};
 use std::alloc::{AllocError, Global};
@@ -94,9 +94,9 @@ impl<'n> DifferenceJob<'n> {
         ensures delivered { result ≡ 0 → (output.new.is_delivered ≡ true) × (output.new.has_failed ≡ false) }
         ensures silent { result ≡ 0 → faults.new ≡ faults.old }
     {
-        let mut desk = Desk::new(self.alloc);
-        match self.compare(&mut desk, output, faults, host) {
-            Ok(()) => desk.worst().exit_status(),
+        let mut batch = Batch::new(self.alloc);
+        match self.compare(&mut batch, output, faults, host) {
+            Ok(()) => batch.worst().exit_status(),
             Err(DifferenceFault::Write) => ProgramFault::Write.report_on(faults),
             Err(DifferenceFault::Memory) => ProgramFault::Memory.report_on(faults),
         }
@@ -109,7 +109,7 @@ impl<'n> DifferenceJob<'n> {
     #[inline(never)]
     fn compare<W: Write, F: Write, H: Host>(
         &self,
-        desk: &mut Desk,
+        batch: &mut Batch,
         output: &mut OutputStream<'_, W>,
         faults: &mut OutputStream<'_, F>,
         host: &mut H,
@@ -118,10 +118,10 @@ impl<'n> DifferenceJob<'n> {
         ensures faults { faults.new.writer.ghost_name ≡ faults.old.writer.ghost_name }
         ensures delivered { OnOk result (output.new.is_delivered ≡ true) }
         ensures unfailed { OnOk result (output.new.has_failed ≡ output.old.has_failed) }
-        ensures silent { desk.new.worst ≡ Clean → faults.new ≡ faults.old }
+        ensures silent { batch.new.worst ≡ Clean → faults.new ≡ faults.old }
         ensures compared { Compares (difference_rule self.now.form) self.now.old.now self.now.new.now
-            (stand_at H.state host.old W.contents output.old F.contents faults.old desk.old.worst)
-            (stand_at H.state host.new W.contents output.new F.contents faults.new desk.new.worst) result }
+            (run_state_at H.state host.old W.contents output.old F.contents faults.old batch.old.worst)
+            (run_state_at H.state host.new W.contents output.new F.contents faults.new batch.new.worst) result }
     {
         let old = self.read(self.old, host)?;
         let new = self.read(self.new, host)?;
@@ -131,9 +131,9 @@ impl<'n> DifferenceJob<'n> {
             lent(&old),
             self.new.as_bytes(),
             lent(&new),
-            &mut desk.room,
+            &mut batch.buffer,
         )?;
-        desk.tell(verdict, output, faults)?;
+        batch.report_result(verdict, output, faults)?;
         Ok(())
     }
 

@@ -2,7 +2,7 @@
 ghost use Rattle.std.specs.Prelude.{◌≡◌, ◌≤◌, ℕ, List, Option, IfErr, IfOk, OnOk, [], ◌∷◌, map, string_bytes, true, false};
 ghost use Rattle.script_text.specs.Input.{Reading};
 ghost use Rattle.program_batch.specs.Answers.{answer_of};
-ghost use Rattle.program_batch.specs.Runs.{account_at, stand_at};
+ghost use Rattle.program_batch.specs.Runs.{account_at, run_state_at};
 ghost use Rattle.program_batch.specs.declared.report.Verdict.TheVariants.{Clean};
 ghost use Rattle.program_surveys.specs.Merges.{AnswersMerge, CameSoFar, EndedMerge, Merges, ReadsFiles};
 ghost use Rattle.program_exit.specs.Outside.{outside_of};
@@ -10,7 +10,7 @@ ghost use Rattle.program_exit.specs.Outside.{outside_of};
 use crate::difference_job::{DifferenceFault, read_contents};
 use cmd_merge::{Readings, Setup, finish, say_present};
 use host_storage::Host;
-use program_batch::{AnswerRoom, Desk, Verdict};
+use program_batch::{Batch, ReportBuffer, Verdict};
 use program_exit::ProgramFault;
 use script_text::output::OutputStream;
 use std::alloc::Global;
@@ -53,9 +53,9 @@ impl<'n> MergeJob<'n> {
         ensures delivered { result ≡ 0 → (output.new.is_delivered ≡ true) × (output.new.has_failed ≡ false) }
         ensures silent { result ≡ 0 → faults.new ≡ faults.old }
     {
-        let mut desk = Desk::new(self.alloc);
-        match self.merge(&mut desk, output, faults, host) {
-            Ok(()) => desk.worst().exit_status(),
+        let mut batch = Batch::new(self.alloc);
+        match self.merge(&mut batch, output, faults, host) {
+            Ok(()) => batch.worst().exit_status(),
             Err(DifferenceFault::Write) => ProgramFault::Write.report_on(faults),
             Err(DifferenceFault::Memory) => ProgramFault::Memory.report_on(faults),
         }
@@ -64,7 +64,7 @@ impl<'n> MergeJob<'n> {
     /// Merges the files, and tells of it at a desk.
     fn merge<W: Write, F: Write, H: Host>(
         &self,
-        desk: &mut Desk,
+        batch: &mut Batch,
         output: &mut OutputStream<'_, W>,
         faults: &mut OutputStream<'_, F>,
         host: &mut H,
@@ -73,13 +73,13 @@ impl<'n> MergeJob<'n> {
         ensures faults { faults.new.writer.ghost_name ≡ faults.old.writer.ghost_name }
         ensures delivered { OnOk result (output.new.is_delivered ≡ true) }
         ensures unfailed { OnOk result (output.new.has_failed ≡ output.old.has_failed) }
-        ensures silent { desk.new.worst ≡ Clean → faults.new ≡ faults.old }
+        ensures silent { batch.new.worst ≡ Clean → faults.new ≡ faults.old }
         ensures merged { Merges self.now.setup.now
-            (stand_at H.state host.old W.contents output.old F.contents faults.old desk.old.worst)
-            (stand_at H.state host.new W.contents output.new F.contents faults.new desk.new.worst) result }
+            (run_state_at H.state host.old W.contents output.old F.contents faults.old batch.old.worst)
+            (run_state_at H.state host.new W.contents output.new F.contents faults.new batch.new.worst) result }
     {
-        let verdict = self.answer(&mut desk.room, host)?;
-        desk.tell(verdict, output, faults)?;
+        let verdict = self.answer(&mut batch.buffer, host)?;
+        batch.report_result(verdict, output, faults)?;
         Ok(())
     }
 
@@ -90,21 +90,21 @@ impl<'n> MergeJob<'n> {
     #[inline(never)]
     fn answer<H: Host>(
         &self,
-        room: &mut AnswerRoom,
+        buffer: &mut ReportBuffer,
         host: &mut H,
     ) -> Result<Verdict, DifferenceFault>
         ensures answered { IfOk result (λ verdict. AnswersMerge self.now.setup.now (H.state host.old)
-            (answer_of room.new.printed.items room.new.complaint.items verdict) (H.state host.new)) }
-        ensures quiet { IfOk result (λ verdict. verdict ≡ Clean → room.new.complaint.items ≡ []) }
+            (answer_of buffer.new.printed.items buffer.new.complaint.items verdict) (H.state host.new)) }
+        ensures quiet { IfOk result (λ verdict. verdict ≡ Clean → buffer.new.complaint.items ≡ []) }
         ensures memory { IfErr result (λ fault. (fault ≡ DifferenceFault.Memory) × CameSoFar self.now.setup.now (H.state host.old) (H.state host.new)) }
     {
         let setup = self.setup;
         if host.is_there(&setup.out) {
-            return Ok(say_present(setup, room)?);
+            return Ok(say_present(setup, buffer)?);
         }
         let mut readings = Readings::new(self.alloc);
         match self.read_all(&setup.names, &mut readings, host) {
-            Ok(()) => Ok(finish(self.alloc, setup, &readings, host, room)?),
+            Ok(()) => Ok(finish(self.alloc, setup, &readings, host, buffer)?),
             Err(fault) => Err(fault),
         }
     }

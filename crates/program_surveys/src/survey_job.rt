@@ -5,19 +5,19 @@ ghost use Rattle.script_text.specs.Input.{IsUnread, reading_of};
 ghost use Rattle.program_batch.specs.Answers.{KeepsQuiet, Rule, by_rule};
 ghost use Rattle.program_batch.specs.Reasons.{with_known_reason};
 ghost use Rattle.out_messages.specs.FaultLines.{unread_line};
-ghost use Rattle.program_batch.specs.Runs.{account_at, stand_at};
-ghost use Rattle.program_surveys.specs.JobEnds.{EndedSurvey, IsListReason, TellsFault};
+ghost use Rattle.program_batch.specs.Runs.{account_at, run_state_at};
+ghost use Rattle.program_surveys.specs.JobEnds.{EndedSurvey, IsListReason, ReportsFault};
 ghost use Rattle.program_exit.specs.Outside.{outside_at};
 ghost use Rattle.program_surveys.specs.SurveyFiles.{files_in, list_name};
 ghost use Rattle.program_surveys.specs.Surveys.{IsOpened, RunsListFile, Says, Surveys, fault_of_list};
-ghost use Rattle.program_batch.specs.declared.desk.RunFault.{RunFault};
+ghost use Rattle.program_batch.specs.declared.batch.RunFault.{RunFault};
 ghost use Rattle.program_batch.specs.declared.report.Verdict.{Verdict};
 
 use crate::file_names::FileNames;
 use host_storage::{Host, HostFault};
 use out_messages::unread_line;
 use program_batch::{
-    Clerk, Desk, ListDesk, Reason, Report, RunFault, Verdict, push_known_reason, reason_of,
+    Batch, FileTask, ListBatch, Reason, Report, RunFault, Verdict, push_known_reason, reason_of,
 };
 use program_exit::{NOT_RUN, ProgramFault};
 use script_text::input::InputStream;
@@ -39,8 +39,8 @@ fn fault_of_list(fault: HostFault) -> RunFault
 fn open_list<H: Host>(list: &str, host: &mut H) -> Result<H::File, RunFault>
     ensures opened { IfOk result (λ file. IsOpened list.now (H.state host.old)
         (Ok (H.File.remaining file)) (H.state host.new)) }
-    ensures refused { IfErr result (λ told. (fault : HostFault) × IsOpened list.now (H.state host.old)
-        (Err fault) (H.state host.new) × (told ≡ fault_of_list fault)) }
+    ensures refused { IfErr result (λ reported. (fault : HostFault) × IsOpened list.now (H.state host.old)
+        (Err fault) (H.state host.new) × (reported ≡ fault_of_list fault)) }
 {
     match host.open(list) {
         Ok(file) => Ok(file),
@@ -59,11 +59,11 @@ fn reason_of_list<H: Host>(list: &str, host: &H) -> Option<Reason>
 }
 
 /// Processes the files that a list of the host names. A failed read of the list is counted.
-fn answer_list_file<H: Host, C: Clerk, W: Write, F: Write>(
+fn answer_list_file<H: Host, C: FileTask, W: Write, F: Write>(
     list: &str,
-    desk: &mut ListDesk,
+    batch: &mut ListBatch,
     host: &mut H,
-    clerk: &mut C,
+    task: &mut C,
     output: &mut OutputStream<'_, W>,
     faults: &mut OutputStream<'_, F>,
 ) -> Result<(), RunFault>
@@ -72,14 +72,14 @@ fn answer_list_file<H: Host, C: Clerk, W: Write, F: Write>(
     ensures faults { faults.new.writer.ghost_name ≡ faults.old.writer.ghost_name }
     ensures delivered { OnOk result (output.new.is_delivered ≡ true) }
     ensures unfailed { OnOk result (output.new.has_failed ≡ output.old.has_failed) }
-    ensures silent { KeepsQuiet (C.conduct (C.manner clerk.old)) → desk.new.desk.worst ≡ Verdict.Clean → (desk.old.desk.worst ≡ Verdict.Clean) × (faults.new ≡ faults.old) }
-    ensures answered { desk.old.name ≡ [] → RunsListFile (C.conduct (C.manner clerk.old)) desk.old.separator list.now
-        (stand_at H.state host.old W.contents output.old F.contents faults.old desk.old.desk.worst)
-        (stand_at H.state host.new W.contents output.new F.contents faults.new desk.new.desk.worst) result }
+    ensures silent { KeepsQuiet (C.effects (C.options task.old)) → batch.new.batch.worst ≡ Verdict.Clean → (batch.old.batch.worst ≡ Verdict.Clean) × (faults.new ≡ faults.old) }
+    ensures answered { batch.old.name ≡ [] → RunsListFile (C.effects (C.options task.old)) batch.old.separator list.now
+        (run_state_at H.state host.old W.contents output.old F.contents faults.old batch.old.batch.worst)
+        (run_state_at H.state host.new W.contents output.new F.contents faults.new batch.new.batch.worst) result }
 {
     let mut file = open_list(list, host)?;
     let mut list = InputStream::new(&mut file);
-    match desk.answer_stream(&mut list, host, clerk, output, faults) {
+    match batch.answer_stream(&mut list, host, task, output, faults) {
         Ok(()) => return Ok(()),
         Err(RunFault::List) => {}
         Err(RunFault::Write) => return Err(RunFault::Write),
@@ -151,9 +151,9 @@ impl<'n> SurveyJob<'n> {
     /// Processes the files by a task, unless memory ran out while it was made, and returns the exit
     /// status: that of the worst verdict, or 2 if the list cannot be read, the output takes no more
     /// bytes, or memory runs out.
-    pub fn run_by<R: Read, W: Write, F: Write, H: Host, C: Clerk + Drop>(
+    pub fn run_by<R: Read, W: Write, F: Write, H: Host, C: FileTask + Drop>(
         &self,
-        clerk: Result<C, AllocError>,
+        task: Result<C, AllocError>,
         input: &mut InputStream<'_, R>,
         output: &mut OutputStream<'_, W>,
         faults: &mut OutputStream<'_, F>,
@@ -167,27 +167,27 @@ impl<'n> SurveyJob<'n> {
         ensures faults { faults.new.writer.ghost_name ≡ faults.old.writer.ghost_name }
         ensures status { result ≤ 2 }
         ensures delivered { result ≡ 0 → (output.new.is_delivered ≡ true) × (output.new.has_failed ≡ false) }
-        ensures silent { IfOk clerk (λ clerk. KeepsQuiet (C.conduct (C.manner clerk))) → result ≡ 0 → faults.new ≡ faults.old }
-        ensures ended { (manner : C.Manner) (heading : List ℕ) → IfOk clerk (λ clerk. (C.manner clerk ≡ manner) × (C.heading clerk ≡ heading))
-            → EndedSurvey (C.conduct manner) heading (files_in self.now.names)
+        ensures silent { IfOk task (λ task. KeepsQuiet (C.effects (C.options task))) → result ≡ 0 → faults.new ≡ faults.old }
+        ensures ended { (options : C.Options) (heading : List ℕ) → IfOk task (λ task. (C.options task ≡ options) × (C.heading task ≡ heading))
+            → EndedSurvey (C.effects options) heading (files_in self.now.names)
             (outside_at R.remaining input.old W.contents output.old H.state host.old)
             (outside_at R.remaining input.new W.contents output.new H.state host.new)
             (account_at F.contents faults.old) (account_at F.contents faults.new) result }
     {
-        let mut clerk = match clerk {
-            Ok(clerk) => clerk,
+        let mut task = match task {
+            Ok(task) => task,
             Err(_) => return ProgramFault::Memory.report_on(faults),
         };
-        match self.answer(&mut clerk, input, output, faults, host) {
+        match self.answer(&mut task, input, output, faults, host) {
             Ok(verdict) => verdict.exit_status(),
-            Err(fault) => self.tell(fault, host, faults),
+            Err(fault) => self.report_fault(fault, host, faults),
         }
     }
 
     /// Processes the files by a task, and returns the worst verdict.
-    fn answer<R: Read, W: Write, F: Write, H: Host, C: Clerk>(
+    fn answer<R: Read, W: Write, F: Write, H: Host, C: FileTask>(
         &self,
-        clerk: &mut C,
+        task: &mut C,
         input: &mut InputStream<'_, R>,
         output: &mut OutputStream<'_, W>,
         faults: &mut OutputStream<'_, F>,
@@ -200,28 +200,28 @@ impl<'n> SurveyJob<'n> {
         ensures output { output.new.writer.ghost_name ≡ output.old.writer.ghost_name }
         ensures faults { faults.new.writer.ghost_name ≡ faults.old.writer.ghost_name }
         ensures delivered { OnOk result ((output.new.is_delivered ≡ true) × (output.new.has_failed ≡ false)) }
-        ensures silent { KeepsQuiet (C.conduct (C.manner clerk.old)) → result ≡ Ok Verdict.Clean → faults.new ≡ faults.old }
-        ensures surveyed { (worst : Verdict) × (ended : Result (Unit {0}) RunFault) × Surveys (C.conduct (C.manner clerk.old)) (C.heading clerk.old) (files_in self.now.names) (R.remaining input.old.reader.now) (R.remaining input.new.reader.now) input.new.has_failed
-            (stand_at H.state host.old W.contents output.old F.contents faults.old Verdict.Clean)
-            (stand_at H.state host.new W.contents output.new F.contents faults.new worst) ended × Says worst ended result }
+        ensures silent { KeepsQuiet (C.effects (C.options task.old)) → result ≡ Ok Verdict.Clean → faults.new ≡ faults.old }
+        ensures surveyed { (worst : Verdict) × (ended : Result (Unit {0}) RunFault) × Surveys (C.effects (C.options task.old)) (C.heading task.old) (files_in self.now.names) (R.remaining input.old.reader.now) (R.remaining input.new.reader.now) input.new.has_failed
+            (run_state_at H.state host.old W.contents output.old F.contents faults.old Verdict.Clean)
+            (run_state_at H.state host.new W.contents output.new F.contents faults.new worst) ended × Says worst ended result }
     {
-        let mut desk = Desk::new(self.alloc);
-        desk.begin(clerk, output)?;
+        let mut batch = Batch::new(self.alloc);
+        batch.begin(task, output)?;
         match self.names {
             FileNames::Given(names) => {
-                desk.answer_files(names, host, clerk, output, faults)?;
-                Ok(desk.worst())
+                batch.answer_files(names, host, task, output, faults)?;
+                Ok(batch.worst())
             }
             FileNames::Listed { list, separator } => {
-                let mut desk = ListDesk::new(desk, separator);
+                let mut batch = ListBatch::new(batch, separator);
                 match list {
                     "-" => {
-                        desk.answer_stream(input, host, clerk, output, faults)?;
-                        Ok(desk.worst())
+                        batch.answer_stream(input, host, task, output, faults)?;
+                        Ok(batch.worst())
                     }
                     list => {
-                        answer_list_file(list, &mut desk, host, clerk, output, faults)?;
-                        Ok(desk.worst())
+                        answer_list_file(list, &mut batch, host, task, output, faults)?;
+                        Ok(batch.worst())
                     }
                 }
             }
@@ -230,7 +230,7 @@ impl<'n> SurveyJob<'n> {
 
     /// Reports the fault of a run, and returns the exit status. If a write fails, the rest of the
     /// line is dropped.
-    fn tell<H: Host, F: Write>(
+    fn report_fault<H: Host, F: Write>(
         &self,
         fault: RunFault,
         host: &H,
@@ -238,17 +238,17 @@ impl<'n> SurveyJob<'n> {
     ) -> u8
         ensures faults { faults.new.writer.ghost_name ≡ faults.old.writer.ghost_name }
         ensures status { result ≡ 2 }
-        ensures told { TellsFault (H.state host.now).files (list_name (files_in self.now.names)) fault (account_at F.contents faults.old) (account_at F.contents faults.new) result }
+        ensures reported { ReportsFault (H.state host.now).files (list_name (files_in self.now.names)) fault (account_at F.contents faults.old) (account_at F.contents faults.new) result }
     {
         match fault {
-            RunFault::List => self.tell_list(self.names.list_name(), host, faults),
+            RunFault::List => self.report_list(self.names.list_name(), host, faults),
             RunFault::Write => ProgramFault::Write.report_on(faults),
             RunFault::Memory => ProgramFault::Memory.report_on(faults),
         }
     }
 
     /// Reports that a list cannot be read, and why, if that is known.
-    fn tell_list<H: Host, F: Write>(
+    fn report_list<H: Host, F: Write>(
         &self,
         list: &str,
         host: &H,
@@ -256,7 +256,7 @@ impl<'n> SurveyJob<'n> {
     ) -> u8
         ensures faults { faults.new.writer.ghost_name ≡ faults.old.writer.ghost_name }
         ensures status { result ≡ 2 }
-        ensures told { TellsFault (H.state host.now).files list.now RunFault.List (account_at F.contents faults.old) (account_at F.contents faults.new) result }
+        ensures reported { ReportsFault (H.state host.now).files list.now RunFault.List (account_at F.contents faults.old) (account_at F.contents faults.new) result }
     {
         let mut line = Vec::new(self.alloc);
         let reason = reason_of_list(list, host);

@@ -76,7 +76,7 @@ fn answer_text<H: Host>(
     };
     if words.len() <= FEW_WORDS {
         let few = held::<FEW_WORDS>(words);
-        answer_words(alloc, host, home, session, few.as_slice())
+        answer_arguments(alloc, host, home, session, few.as_slice())
     } else {
         answer_many(alloc, host, home, session, words)
     }
@@ -102,7 +102,7 @@ fn answer_many<H: Host>(
         (world_of (H.state host.new) session.new) }
 {
     let many = held::<MAX_WORDS>(words);
-    answer_words(alloc, host, home, session, many.as_slice())
+    answer_arguments(alloc, host, home, session, many.as_slice())
 }
 
 /// The command and the arguments of a line in a list that has room for them.
@@ -127,7 +127,7 @@ fn as_text(word: &[u8]) -> &str
 }
 
 /// Runs a line by its command and arguments.
-fn answer_words<H: Host>(
+fn answer_arguments<H: Host>(
     alloc: Global,
     host: &mut H,
     home: &str,

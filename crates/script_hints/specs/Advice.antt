@@ -169,4 +169,4 @@ advice said status = advice_by said (command_of said.word) status
 
 -- the advice as bytes, with the line end
 abbrev pub advice_words : Said → List Piece → Bytes
-advice_words said told = flat_map (said_piece said) told ++ codes "\n"
+advice_words said advised = flat_map (said_piece said) advised ++ codes "\n"

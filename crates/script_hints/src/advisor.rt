@@ -36,7 +36,7 @@ use arrayvec::ArrayVec;
 use d64_image::Image;
 use d64_undo::Session;
 use host_storage::{Host, HostFault};
-use script_run::{Listener, Opening, Refusals};
+use script_run::{Observer, Opening, Refusals};
 use script_text::held_line::HeldLine;
 use script_text::output::{OutputStream, WriteFault};
 use script_text::raw_lines::LINE_BYTES;
@@ -125,7 +125,7 @@ impl<'w, W: Write, H: Host> Advisor<'w, W, H> {
     /// Says why no session began, if that is known.
     pub fn end_without_session(&mut self)
         ensures lent { self.new.output.writer.ghost_name ≡ self.old.output.writer.ghost_name }
-        ensures told { Writes
+        ensures advised { Writes
             (account_of (W.contents self.old.output.writer.now) self.old.output.has_failed)
             (account_of (W.contents self.new.output.writer.now) self.new.output.has_failed)
             (option_map_or (λ line. line.items) self.old.unfit []) }
@@ -167,14 +167,14 @@ impl<'w, W: Write, H: Host> Advisor<'w, W, H> {
     }
 
     /// Follows a line that has run, and explains it if it was refused.
-    pub fn tell(&mut self, home: &str, line: &HeldLine, status: &Status, image: &Image)
+    pub fn advise(&mut self, home: &str, line: &HeldLine, status: &Status, image: &Image)
         ensures lent { self.new.output.writer.ghost_name ≡ self.old.output.writer.ghost_name }
         ensures typed { self.new.is_typed ≡ self.old.is_typed }
         ensures numbered { self.new.is_numbered ≡ self.old.is_numbered }
         ensures lines { self.new.lines ≡ self.old.lines }
         ensures kept { (raw : List ℕ) → Says line.now raw → self.old.is_typed ≡ true → is_accepted status.now ≡ true → (found : List ℕ) × (self.new.kept ≡ kept_after self.old.kept (effect_of home.now found (said_by raw)) image.now) }
         ensures held { is_accepted status.now ≡ false → self.new.kept ≡ self.old.kept }
-        ensures told { (raw : List ℕ) → Says line.now raw → is_accepted status.now ≡ false → (start words : List ℕ)
+        ensures advised { (raw : List ℕ) → Says line.now raw → is_accepted status.now ≡ false → (start words : List ℕ)
             × MayStart self.old.is_numbered self.old.lines (named_text raw self.old.first_bytes.items) start
             × MaySay (H.state self.old.host) start (said_by raw) status.now words
             × Writes
@@ -228,7 +228,7 @@ impl<'w, W: Write, H: Host> Advisor<'w, W, H> {
     /// session if it was left by `quit` or by the end of what is typed.
     pub fn end_with(&mut self, home: &str, session: &Session)
         ensures lent { self.new.output.writer.ghost_name ≡ self.old.output.writer.ghost_name }
-        ensures told { is_unsaved self.old.kept (present_image session.now) ≡ true → (line : List ℕ)
+        ensures advised { is_unsaved self.old.kept (present_image session.now) ≡ true → (line : List ℕ)
             × ((line ≡ unsaved_line) ⊎ ((self.old.is_left ≡ true) × IsKeptUnder (H.state self.old.host) home.now session.now line (H.state self.new.host)))
             × Writes
             (account_of (W.contents self.old.output.writer.now) self.old.output.has_failed)
@@ -325,7 +325,7 @@ fn asks_for_help(line: &HeldLine, status: &Status) -> bool {
     }
 }
 
-impl<'w, W: Write, H: Host> Listener for Advisor<'w, W, H> {
+impl<'w, W: Write, H: Host> Observer for Advisor<'w, W, H> {
     fn miss(&mut self, name: &str, contents: Result<&[u8], HostFault>) {
         if self.is_shown {
             self.unfit = unfit_line(self.alloc, &self.host, name, contents);
@@ -365,12 +365,12 @@ impl<'w, W: Write, H: Host> Listener for Advisor<'w, W, H> {
         self.is_typed || self.is_numbered && !status.is_accepted()
     }
 
-    fn hear(&mut self, home: &str, line: &HeldLine, status: &Status, session: &Session) {
+    fn observe(&mut self, home: &str, line: &HeldLine, status: &Status, session: &Session) {
         self.lines = self.lines.saturating_add(1);
         self.is_prompting = false;
         let asks = self.is_typed && asks_for_help(line, status);
         if self.is_numbered || self.is_typed && !asks {
-            self.tell(home, line, status, session.image());
+            self.advise(home, line, status, session.image());
         }
         if asks {
             let _ = self.output.write(ROWS);

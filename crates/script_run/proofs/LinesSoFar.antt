@@ -14,7 +14,7 @@ use Rattle.script_text.proofs.LineCuts.{lines_of-nil}
 use Rattle.script_text.proofs.OpenLines.{IsOpen-append, lines_of-ended, lines_of-begun, is_ended-push}
 use Rattle.script_commands.specs.Act.{printed_bytes, LineAnswer, World}
 use Rattle.script_text.specs.Status.{is_accepted}
-use Rattle.script_run.specs.Transcript.{ends_script, Manner, Transcript, counted_progress}
+use Rattle.script_run.specs.Transcript.{ends_script, RunOptions, Transcript, counted_progress}
 use Rattle.script_run.specs.Runner.{ScriptState, first_progress, RanLines, StoppedAt}
 use Rattle.script_run.specs.LineByLine.{progress_of, AreCutInto, ScriptHasCome, HasClosed, RunsLine, StopsInLine}
 use Rattle.script_run.specs.declared.runner.Tally.{Tally}
@@ -52,34 +52,34 @@ AreCutInto-line bytes part begun lines cut is_open =
     }
 
 -- one line more has run
-RanLines-line : (manner : Manner) (first old new : ScriptState) (lines : List (List ℕ)) (line : List ℕ) (before after : Tally)
-    → RanLines manner first old lines (progress_of before old.world) → before.closed ≡ false → RunsLine manner line old new before after
-    → RanLines manner first new (lines ++ line ∷ []) (progress_of after new.world)
-RanLines-line manner first old new lines line before after ran open_run runs = record {
+RanLines-line : (options : RunOptions) (first old new : ScriptState) (lines : List (List ℕ)) (line : List ℕ) (before after : Tally)
+    → RanLines options first old lines (progress_of before old.world) → before.closed ≡ false → RunsLine options line old new before after
+    → RanLines options first new (lines ++ line ∷ []) (progress_of after new.world)
+RanLines-line options first old new lines line before after ran open_run runs = record {
   out = ran.out ++ runs.said;
-  told = Transcript-line manner lines line (first_progress first.world) ran.out runs.said (progress_of before old.world) (progress_of after new.world) ran.told open_run runs.told;
+  reported = Transcript-line options lines line (first_progress first.world) ran.out runs.said (progress_of before old.world) (progress_of after new.world) ran.reported open_run runs.reported;
   written = Appends-trans first.writer old.writer new.writer ran.out runs.said ran.written runs.written;
   world = refl;
 }
 
 -- a run that begins
-pub ScriptHasCome-none : (manner : Manner) (stand : ScriptState) (tally : Tally) (line : HeldLine)
-    → tally ≡ record { outcome = record { accepted = 0; refused = 0 }; closed = false } → Holds line [] → ScriptHasCome manner stand stand tally line []
+pub ScriptHasCome-none : (options : RunOptions) (reached : ScriptState) (tally : Tally) (line : HeldLine)
+    → tally ≡ record { outcome = record { accepted = 0; refused = 0 }; closed = false } → Holds line [] → ScriptHasCome options reached reached tally line []
 unfolding Transcript
-ScriptHasCome-none manner stand tally line none held = record {
+ScriptHasCome-none options reached tally line none held = record {
   lines = [];
   begun = [];
   cut = AreCutInto-none;
-  ran = record { out = []; told = (refl, ap (λ t. progress_of t stand.world) none); written = Appends-nil stand.writer; world = refl };
+  ran = record { out = []; reported = (refl, ap (λ t. progress_of t reached.world) none); written = Appends-nil reached.writer; world = refl };
   held = held;
   open_run = ap (λ t. t.closed) none;
 }
 
 -- bytes more, with no LF among them
-pub ScriptHasCome-more : (manner : Manner) (first stand : ScriptState) (tally : Tally) (line longer : HeldLine) (bytes part : List ℕ)
-    → ScriptHasCome manner first stand tally line bytes → IsOpen part → ((begun : List ℕ) → Holds line begun → Holds longer (begun ++ part))
-    → ScriptHasCome manner first stand tally longer (bytes ++ part)
-ScriptHasCome-more manner first stand tally line longer bytes part come is_open held = record {
+pub ScriptHasCome-more : (options : RunOptions) (first reached : ScriptState) (tally : Tally) (line longer : HeldLine) (bytes part : List ℕ)
+    → ScriptHasCome options first reached tally line bytes → IsOpen part → ((begun : List ℕ) → Holds line begun → Holds longer (begun ++ part))
+    → ScriptHasCome options first reached tally longer (bytes ++ part)
+ScriptHasCome-more options first reached tally line longer bytes part come is_open held = record {
   lines = come.lines;
   begun = come.begun ++ part;
   cut = AreCutInto-more bytes part come.begun come.lines come.cut is_open;
@@ -89,52 +89,52 @@ ScriptHasCome-more manner first stand tally line longer bytes part come is_open 
 }
 
 -- a line more was ended, and has run
-pub ScriptHasCome-line : (manner : Manner) (first old new : ScriptState) (before after : Tally) (line next : HeldLine) (bytes part : List ℕ)
-    → (come : ScriptHasCome manner first old before line bytes) → IsOpen part → RunsLine manner ((come.begun ++ part) ++ 10 ∷ []) old new before after
-    → after.closed ≡ false → Holds next [] → ScriptHasCome manner first new after next (bytes ++ (part ++ 10 ∷ []))
-ScriptHasCome-line manner first old new before after line next bytes part come is_open runs open_run held = record {
+pub ScriptHasCome-line : (options : RunOptions) (first old new : ScriptState) (before after : Tally) (line next : HeldLine) (bytes part : List ℕ)
+    → (come : ScriptHasCome options first old before line bytes) → IsOpen part → RunsLine options ((come.begun ++ part) ++ 10 ∷ []) old new before after
+    → after.closed ≡ false → Holds next [] → ScriptHasCome options first new after next (bytes ++ (part ++ 10 ∷ []))
+ScriptHasCome-line options first old new before after line next bytes part come is_open runs open_run held = record {
   lines = come.lines ++ ((come.begun ++ part) ++ 10 ∷ []) ∷ [];
   begun = [];
   cut = AreCutInto-line bytes part come.begun come.lines come.cut is_open;
-  ran = RanLines-line manner first old new come.lines ((come.begun ++ part) ++ 10 ∷ []) before after come.ran come.open_run runs;
+  ran = RanLines-line options first old new come.lines ((come.begun ++ part) ++ 10 ∷ []) before after come.ran come.open_run runs;
   held = held;
   open_run = open_run;
 }
 
 -- a line more was ended, and ended the run: what comes after it is silent
-pub HasClosed-line : (manner : Manner) (first old new : ScriptState) (before after : Tally) (line : HeldLine) (bytes part rest : List ℕ)
-    → (come : ScriptHasCome manner first old before line bytes) → IsOpen part → RunsLine manner ((come.begun ++ part) ++ 10 ∷ []) old new before after
-    → after.closed ≡ true → HasClosed manner first new after ((bytes ++ (part ++ 10 ∷ [])) ++ rest)
-HasClosed-line manner first old new before after line bytes part rest come is_open runs closed_run =
+pub HasClosed-line : (options : RunOptions) (first old new : ScriptState) (before after : Tally) (line : HeldLine) (bytes part rest : List ℕ)
+    → (come : ScriptHasCome options first old before line bytes) → IsOpen part → RunsLine options ((come.begun ++ part) ++ 10 ∷ []) old new before after
+    → after.closed ≡ true → HasClosed options first new after ((bytes ++ (part ++ 10 ∷ [])) ++ rest)
+HasClosed-line options first old new before after line bytes part rest come is_open runs closed_run =
     let script = bytes ++ (part ++ 10 ∷ []) in
     let last = (come.begun ++ part) ++ 10 ∷ [] in
     let lines = come.lines ++ last ∷ [] in
     let cut = AreCutInto-line bytes part come.begun come.lines come.cut is_open in
-    let ran = RanLines-line manner first old new come.lines last before after come.ran come.open_run runs in
-    let P : List (List ℕ) → Type 0 = λ l. RanLines manner first new l (progress_of after new.world) in
+    let ran = RanLines-line options first old new come.lines last before after come.ran come.open_run runs in
+    let P : List (List ℕ) → Type 0 = λ l. RanLines options first new l (progress_of after new.world) in
     record {
       ran = λ more.
           subst P (sym (ap lines_of (append_assoc script rest more) ∙ cut.goes_on (rest ++ more)))
-          (RanLines-closed manner first new lines (lines_of (rest ++ more)) (progress_of after new.world) ran closed_run);
+          (RanLines-closed options first new lines (lines_of (rest ++ more)) (progress_of after new.world) ran closed_run);
       closed_run = closed_run;
     }
 
 -- a write failed at a line
-StoppedAt-line : (manner : Manner) (first old new : ScriptState) (lines rest all : List (List ℕ)) (line : List ℕ) (before : Tally)
-    → RanLines manner first old lines (progress_of before old.world) → before.closed ≡ false → StopsInLine manner line old new before
-    → lines ++ line ∷ rest ≡ all → StoppedAt manner first new all
-StoppedAt-line manner first old new lines rest all line before ran open_run stops split = record {
+StoppedAt-line : (options : RunOptions) (first old new : ScriptState) (lines rest all : List (List ℕ)) (line : List ℕ) (before : Tally)
+    → RanLines options first old lines (progress_of before old.world) → before.closed ≡ false → StopsInLine options line old new before
+    → lines ++ line ∷ rest ≡ all → StoppedAt options first new all
+StoppedAt-line options first old new lines rest all line before ran open_run stops split = record {
   before = lines;
   line = line;
   rest = rest;
   split = split;
   out = ran.out;
   middle = progress_of before old.world;
-  told = ran.told;
+  reported = ran.reported;
   open_run = open_run;
   answer = stops.said;
   after = stops.after;
-  answered = stops.told;
+  answered = stops.reported;
   part = stops.part.part;
   unwritten = stops.part.rest;
   parts = stops.part.all;
@@ -143,15 +143,15 @@ StoppedAt-line manner first old new lines rest all line before ran open_run stop
 }
 
 -- at one that was ended
-pub StoppedAt-ended : (manner : Manner) (first old new : ScriptState) (before : Tally) (line : HeldLine) (bytes part rest more : List ℕ)
-    → (come : ScriptHasCome manner first old before line bytes) → IsOpen part → StopsInLine manner ((come.begun ++ part) ++ 10 ∷ []) old new before
-    → StoppedAt manner first new (lines_of (((bytes ++ (part ++ 10 ∷ [])) ++ rest) ++ more))
-StoppedAt-ended manner first old new before line bytes part rest more come is_open stops =
+pub StoppedAt-ended : (options : RunOptions) (first old new : ScriptState) (before : Tally) (line : HeldLine) (bytes part rest more : List ℕ)
+    → (come : ScriptHasCome options first old before line bytes) → IsOpen part → StopsInLine options ((come.begun ++ part) ++ 10 ∷ []) old new before
+    → StoppedAt options first new (lines_of (((bytes ++ (part ++ 10 ∷ [])) ++ rest) ++ more))
+StoppedAt-ended options first old new before line bytes part rest more come is_open stops =
     let script = bytes ++ (part ++ 10 ∷ []) in
     let last = (come.begun ++ part) ++ 10 ∷ [] in
     let others = lines_of (rest ++ more) in
     let cut = AreCutInto-line bytes part come.begun come.lines come.cut is_open in
-    StoppedAt-line manner first old new come.lines others (lines_of ((script ++ rest) ++ more)) last before come.ran come.open_run stops
+    StoppedAt-line options first old new come.lines others (lines_of ((script ++ rest) ++ more)) last before come.ran come.open_run stops
     (sym (ap lines_of (append_assoc script rest more) ∙ cut.goes_on (rest ++ more) ∙ append_assoc come.lines (last ∷ []) others))
 
 -- the lines of a script that has come whole
@@ -164,10 +164,10 @@ no_bytes [] none = refl
 no_bytes (byte ∷ rest) none = absurd (omega arith)
 
 -- nothing follows the last LF
-pub RanLines-whole : (manner : Manner) (first stand : ScriptState) (tally : Tally) (line : HeldLine) (bytes : List ℕ)
-    → (come : ScriptHasCome manner first stand tally line bytes) → length come.begun < 1 → RanLines manner first stand (lines_of bytes) (progress_of tally stand.world)
-RanLines-whole manner first stand tally line bytes come none =
-    let P : List (List ℕ) → Type 0 = λ l. RanLines manner first stand l (progress_of tally stand.world) in
+pub RanLines-whole : (options : RunOptions) (first reached : ScriptState) (tally : Tally) (line : HeldLine) (bytes : List ℕ)
+    → (come : ScriptHasCome options first reached tally line bytes) → length come.begun < 1 → RanLines options first reached (lines_of bytes) (progress_of tally reached.world)
+RanLines-whole options first reached tally line bytes come none =
+    let P : List (List ℕ) → Type 0 = λ l. RanLines options first reached l (progress_of tally reached.world) in
     let same = lines_of-whole bytes come.begun come.lines come.cut ∙ ap (λ l. come.lines ++ lines_of l) (no_bytes come.begun none)
     ∙ ap (λ l. come.lines ++ l) lines_of-nil ∙ append-nil come.lines in
     subst P (sym same) come.ran
@@ -176,55 +176,55 @@ RanLines-whole manner first stand tally line bytes come none =
 lines_of-last : (bytes begun : List ℕ) (lines : List (List ℕ)) → AreCutInto bytes lines begun → 0 < length begun → lines_of bytes ≡ lines ++ begun ∷ []
 lines_of-last bytes begun lines cut some = lines_of-whole bytes begun lines cut ∙ ap (λ l. lines ++ l) (lines_of-begun begun cut.is_open some)
 
-pub RanLines-last : (manner : Manner) (first old new : ScriptState) (before after : Tally) (line : HeldLine) (bytes : List ℕ)
-    → (come : ScriptHasCome manner first old before line bytes) → 0 < length come.begun → RunsLine manner come.begun old new before after
-    → RanLines manner first new (lines_of bytes) (progress_of after new.world)
-RanLines-last manner first old new before after line bytes come some runs =
-    let P : List (List ℕ) → Type 0 = λ l. RanLines manner first new l (progress_of after new.world) in
+pub RanLines-last : (options : RunOptions) (first old new : ScriptState) (before after : Tally) (line : HeldLine) (bytes : List ℕ)
+    → (come : ScriptHasCome options first old before line bytes) → 0 < length come.begun → RunsLine options come.begun old new before after
+    → RanLines options first new (lines_of bytes) (progress_of after new.world)
+RanLines-last options first old new before after line bytes come some runs =
+    let P : List (List ℕ) → Type 0 = λ l. RanLines options first new l (progress_of after new.world) in
     subst P (sym (lines_of-last bytes come.begun come.lines come.cut some))
-    (RanLines-line manner first old new come.lines come.begun before after come.ran come.open_run runs)
+    (RanLines-line options first old new come.lines come.begun before after come.ran come.open_run runs)
 
-pub StoppedAt-last : (manner : Manner) (first old new : ScriptState) (before : Tally) (line : HeldLine) (bytes : List ℕ)
-    → (come : ScriptHasCome manner first old before line bytes) → 0 < length come.begun → StopsInLine manner come.begun old new before
-    → StoppedAt manner first new (lines_of bytes)
-StoppedAt-last manner first old new before line bytes come some stops =
-    StoppedAt-line manner first old new come.lines [] (lines_of bytes) come.begun before come.ran come.open_run stops
+pub StoppedAt-last : (options : RunOptions) (first old new : ScriptState) (before : Tally) (line : HeldLine) (bytes : List ℕ)
+    → (come : ScriptHasCome options first old before line bytes) → 0 < length come.begun → StopsInLine options come.begun old new before
+    → StoppedAt options first new (lines_of bytes)
+StoppedAt-last options first old new before line bytes come some stops =
+    StoppedAt-line options first old new come.lines [] (lines_of bytes) come.begun before come.ran come.open_run stops
     (sym (lines_of-last bytes come.begun come.lines come.cut some))
 
 -- a line that is skipped has run, and nothing was written
-pub RunsLine-skipped : (manner : Manner) (raw : List ℕ) (writer : Option (List ℕ)) (world after : World) (tally : Tally) → IsSkipped manner.home world.history raw world after
-    → RunsLine manner raw (record { writer = writer; world = world }) (record { writer = writer; world = after }) tally tally
-RunsLine-skipped manner raw writer world after tally skipped =
-    let P : World → Type 0 = λ w. RunsLine manner raw (record { writer = writer; world = world }) (record { writer = writer; world = w }) tally tally in
+pub RunsLine-skipped : (options : RunOptions) (raw : List ℕ) (writer : Option (List ℕ)) (world after : World) (tally : Tally) → IsSkipped options.home world.history raw world after
+    → RunsLine options raw (record { writer = writer; world = world }) (record { writer = writer; world = after }) tally tally
+RunsLine-skipped options raw writer world after tally skipped =
+    let P : World → Type 0 = λ w. RunsLine options raw (record { writer = writer; world = world }) (record { writer = writer; world = w }) tally tally in
     subst P (sym skipped.1) (record {
       said = [];
-      told = Line-skipped manner raw (progress_of tally world) skipped.0;
+      reported = Line-skipped options raw (progress_of tally world) skipped.0;
       written = Appends-nil writer;
     })
 
 -- a line that prints has run, and what it prints was written
-pub RunsLine-answered : {E : Type 0} (manner : Manner) (raw : List ℕ) (old new : Option (List ℕ)) (world left : World) (before after : Tally) (answer : LineAnswer) (wrote : Result (Unit {0}) E)
-    → IsAnswered manner.home world.history raw world answer left → after.closed ≡ (answer.closes || ends_script manner.refusals answer.status)
+pub RunsLine-answered : {E : Type 0} (options : RunOptions) (raw : List ℕ) (old new : Option (List ℕ)) (world left : World) (before after : Tally) (answer : LineAnswer) (wrote : Result (Unit {0}) E)
+    → IsAnswered options.home world.history raw world answer left → after.closed ≡ (answer.closes || ends_script options.refusals answer.status)
     → after.outcome.accepted ≡ before.outcome.accepted + (if is_accepted answer.status then 1 else 0)
     → after.outcome.refused ≡ before.outcome.refused + (if is_accepted answer.status then 0 else 1)
     → OnOk wrote (Appends old new (printed_bytes answer))
-    → OnOk wrote (RunsLine manner raw (record { writer = old; world = world }) (record { writer = new; world = left }) before after)
-RunsLine-answered manner raw old new world left before after answer (Ok done) answered closes accepted refused written = record {
+    → OnOk wrote (RunsLine options raw (record { writer = old; world = world }) (record { writer = new; world = left }) before after)
+RunsLine-answered options raw old new world left before after answer (Ok done) answered closes accepted refused written = record {
   said = printed_bytes answer;
-  told = rw (closes, accepted, refused) (Line-answered manner raw (progress_of before world) answer left answered);
+  reported = rw (closes, accepted, refused) (Line-answered options raw (progress_of before world) answer left answered);
   written = written;
 }
-RunsLine-answered manner raw old new world left before after answer (Err error) answered closes accepted refused written = tt
+RunsLine-answered options raw old new world left before after answer (Err error) answered closes accepted refused written = tt
 
 -- a write of what it prints failed
-pub StopsInLine-answered : {E : Type 0} (manner : Manner) (raw : List ℕ) (old new : Option (List ℕ)) (world left : World) (before : Tally) (answer : LineAnswer) (wrote : Result (Unit {0}) E)
-    → IsAnswered manner.home world.history raw world answer left → OnErr wrote (AppendsPart old new (printed_bytes answer))
-    → OnErr wrote (StopsInLine manner raw (record { writer = old; world = world }) (record { writer = new; world = left }) before)
-StopsInLine-answered manner raw old new world left before answer (Ok done) answered part = tt
-StopsInLine-answered manner raw old new world left before answer (Err error) answered part = record {
+pub StopsInLine-answered : {E : Type 0} (options : RunOptions) (raw : List ℕ) (old new : Option (List ℕ)) (world left : World) (before : Tally) (answer : LineAnswer) (wrote : Result (Unit {0}) E)
+    → IsAnswered options.home world.history raw world answer left → OnErr wrote (AppendsPart old new (printed_bytes answer))
+    → OnErr wrote (StopsInLine options raw (record { writer = old; world = world }) (record { writer = new; world = left }) before)
+StopsInLine-answered options raw old new world left before answer (Ok done) answered part = tt
+StopsInLine-answered options raw old new world left before answer (Err error) answered part = record {
   said = printed_bytes answer;
-  after = counted_progress manner.refusals (progress_of before world) answer left;
-  told = Line-answered manner raw (progress_of before world) answer left answered;
+  after = counted_progress options.refusals (progress_of before world) answer left;
+  reported = Line-answered options raw (progress_of before world) answer left answered;
   part = part;
   world = refl;
 }

@@ -8,7 +8,7 @@ use Rattle.script_text.specs.RawLines.{before_end, is_ended, lines_of}
 use Rattle.script_text.specs.declared.held_line.HeldLine.{HeldLine}
 use Rattle.script_text.proofs.LineCuts.{flat_map-lines_of}
 use Rattle.script_text.proofs.OpenLines.{IsOpen-append, IsRaw, IsRaw-first, append-lines_of}
-use Rattle.script_run.specs.Transcript.{Manner}
+use Rattle.script_run.specs.Transcript.{RunOptions}
 use Rattle.script_run.specs.Runner.{ScriptState, StoppedAt}
 use Rattle.script_run.specs.LineByLine.{ScriptHasCome, HasClosed, ComesTo, RunsLine, StopsInLine}
 use Rattle.script_run.specs.declared.runner.Tally.{Tally}
@@ -67,33 +67,33 @@ first_part done left part rest piece steps split = record {
 }
 
 -- an open run comes to the end of a piece
-ComesTo-open : (manner : Manner) (first stand : ScriptState) (tally : Tally) (line : HeldLine) (bytes : List ℕ)
-    → ScriptHasCome manner first stand tally line bytes → ComesTo manner first stand tally line bytes
-ComesTo-open manner first stand tally line bytes come =
-    in_false tally.closed (HasClosed manner first stand tally bytes) (ScriptHasCome manner first stand tally line bytes) come.open_run come
+ComesTo-open : (options : RunOptions) (first reached : ScriptState) (tally : Tally) (line : HeldLine) (bytes : List ℕ)
+    → ScriptHasCome options first reached tally line bytes → ComesTo options first reached tally line bytes
+ComesTo-open options first reached tally line bytes come =
+    in_false tally.closed (HasClosed options first reached tally bytes) (ScriptHasCome options first reached tally line bytes) come.open_run come
 
-pub came_whole : (manner : Manner) (first stand : ScriptState) (tally : Tally) (line : HeldLine) (before done piece : List ℕ)
-    → done ≡ piece → ScriptHasCome manner first stand tally line (before ++ done) → ComesTo manner first stand tally line (before ++ piece)
-came_whole manner first stand tally line before done piece whole come =
-    subst (λ l. ComesTo manner first stand tally line (before ++ l)) whole (ComesTo-open manner first stand tally line (before ++ done) come)
+pub came_whole : (options : RunOptions) (first reached : ScriptState) (tally : Tally) (line : HeldLine) (before done piece : List ℕ)
+    → done ≡ piece → ScriptHasCome options first reached tally line (before ++ done) → ComesTo options first reached tally line (before ++ piece)
+came_whole options first reached tally line before done piece whole come =
+    subst (λ l. ComesTo options first reached tally line (before ++ l)) whole (ComesTo-open options first reached tally line (before ++ done) come)
 
 -- the begin of a line has come
-pub came_more : (manner : Manner) (first stand : ScriptState) (tally : Tally) (line longer : HeldLine) (before done part front : List ℕ)
-    → ScriptHasCome manner first stand tally line (before ++ done) → IsRaw part → is_ended part ≡ false → front ≡ before_end part
-    → ((begun : List ℕ) → Holds line begun → Holds longer (begun ++ front)) → ScriptHasCome manner first stand tally longer (before ++ (done ++ part))
-came_more manner first stand tally line longer before done part front come raw open_part same push =
+pub came_more : (options : RunOptions) (first reached : ScriptState) (tally : Tally) (line longer : HeldLine) (before done part front : List ℕ)
+    → ScriptHasCome options first reached tally line (before ++ done) → IsRaw part → is_ended part ≡ false → front ≡ before_end part
+    → ((begun : List ℕ) → Holds line begun → Holds longer (begun ++ front)) → ScriptHasCome options first reached tally longer (before ++ (done ++ part))
+came_more options first reached tally line longer before done part front come raw open_part same push =
     let is = is_without_line_feed part raw open_part in
-    subst (λ l. ScriptHasCome manner first stand tally longer l) (append_assoc before done part)
-    (ScriptHasCome-more manner first stand tally line longer (before ++ done) part come (subst IsOpen (sym is) raw.0)
+    subst (λ l. ScriptHasCome options first reached tally longer l) (append_assoc before done part)
+    (ScriptHasCome-more options first reached tally line longer (before ++ done) part come (subst IsOpen (sym is) raw.0)
     (λ begun held. subst (λ l. Holds longer (begun ++ l)) (same ∙ sym is) (push begun held)))
 
 -- what is held once a line has come to its LF says what the line is
-says_line : (manner : Manner) (first stand : ScriptState) (tally : Tally) (line longer ended : HeldLine) (bytes part front : List ℕ)
-    → (come : ScriptHasCome manner first stand tally line bytes) → IsRaw part → front ≡ before_end part
+says_line : (options : RunOptions) (first reached : ScriptState) (tally : Tally) (line longer ended : HeldLine) (bytes part front : List ℕ)
+    → (come : ScriptHasCome options first reached tally line bytes) → IsRaw part → front ≡ before_end part
     → ((begun : List ℕ) → Holds line begun → Holds longer (begun ++ front))
     → ((begun : List ℕ) → Holds longer begun → IsOpen begun → Says ended (begun ++ 10 ∷ []))
     → Says ended ((come.begun ++ before_end part) ++ 10 ∷ [])
-says_line manner first stand tally line longer ended bytes part front come raw same push end_line =
+says_line options first reached tally line longer ended bytes part front come raw same push end_line =
     end_line (come.begun ++ before_end part) (subst (λ l. Holds longer (come.begun ++ l)) same (push come.begun come.held))
     (IsOpen-append come.begun (before_end part) come.cut.is_open raw.0)
 
@@ -102,16 +102,16 @@ up_to : (before done part : List ℕ) → IsRaw part → is_ended part ≡ true 
 up_to before done part raw ended = ap (λ l. (before ++ done) ++ l) (sym (is_with_line_feed part raw ended)) ∙ append_assoc before done part
 
 -- a line was ended, and has run
-pub came_line : (manner : Manner) (first old new : ScriptState) (tally after : Tally) (line longer ended next : HeldLine) (before done part front : List ℕ)
-    → ScriptHasCome manner first old tally line (before ++ done) → IsRaw part → is_ended part ≡ true → front ≡ before_end part
+pub came_line : (options : RunOptions) (first old new : ScriptState) (tally after : Tally) (line longer ended next : HeldLine) (before done part front : List ℕ)
+    → ScriptHasCome options first old tally line (before ++ done) → IsRaw part → is_ended part ≡ true → front ≡ before_end part
     → ((begun : List ℕ) → Holds line begun → Holds longer (begun ++ front))
     → ((begun : List ℕ) → Holds longer begun → IsOpen begun → Says ended (begun ++ 10 ∷ []))
-    → ((raw : List ℕ) → Says ended raw → tally.closed ≡ false → RunsLine manner raw old new tally after)
-    → after.closed ≡ false → Holds next [] → ScriptHasCome manner first new after next (before ++ (done ++ part))
-came_line manner first old new tally after line longer ended next before done part front come raw is_ended_part same push end_line runs open_run none =
-    let says = says_line manner first old tally line longer ended (before ++ done) part front come raw same push end_line in
-    subst (λ l. ScriptHasCome manner first new after next l) (up_to before done part raw is_ended_part)
-    (ScriptHasCome-line manner first old new tally after line next (before ++ done) (before_end part) come raw.0
+    → ((raw : List ℕ) → Says ended raw → tally.closed ≡ false → RunsLine options raw old new tally after)
+    → after.closed ≡ false → Holds next [] → ScriptHasCome options first new after next (before ++ (done ++ part))
+came_line options first old new tally after line longer ended next before done part front come raw is_ended_part same push end_line runs open_run none =
+    let says = says_line options first old tally line longer ended (before ++ done) part front come raw same push end_line in
+    subst (λ l. ScriptHasCome options first new after next l) (up_to before done part raw is_ended_part)
+    (ScriptHasCome-line options first old new tally after line next (before ++ done) (before_end part) come raw.0
     (runs ((come.begun ++ before_end part) ++ 10 ∷ []) says come.open_run) open_run none)
 
 -- bytes up to the end of a line, and the rest of the piece
@@ -121,39 +121,39 @@ up_to_rest before done part rest piece raw ended split =
     ap (λ l. l ++ rest) (up_to before done part raw ended) ∙ append_assoc before (done ++ part) rest ∙ ap (λ l. before ++ l) split
 
 -- a line was ended, and was an accepted `quit`
-pub came_to_quit : (manner : Manner) (first old new : ScriptState) (tally after : Tally) (line longer ended next : HeldLine) (before done part front rest piece : List ℕ)
-    → ScriptHasCome manner first old tally line (before ++ done) → IsRaw part → is_ended part ≡ true → front ≡ before_end part
+pub came_to_quit : (options : RunOptions) (first old new : ScriptState) (tally after : Tally) (line longer ended next : HeldLine) (before done part front rest piece : List ℕ)
+    → ScriptHasCome options first old tally line (before ++ done) → IsRaw part → is_ended part ≡ true → front ≡ before_end part
     → ((begun : List ℕ) → Holds line begun → Holds longer (begun ++ front))
     → ((begun : List ℕ) → Holds longer begun → IsOpen begun → Says ended (begun ++ 10 ∷ []))
-    → ((raw : List ℕ) → Says ended raw → tally.closed ≡ false → RunsLine manner raw old new tally after)
-    → after.closed ≡ true → (done ++ part) ++ rest ≡ piece → ComesTo manner first new after next (before ++ piece)
-came_to_quit manner first old new tally after line longer ended next before done part front rest piece come raw is_ended_part same push end_line runs closed_run split =
-    let says = says_line manner first old tally line longer ended (before ++ done) part front come raw same push end_line in
-    in_true after.closed (HasClosed manner first new after (before ++ piece)) (ScriptHasCome manner first new after next (before ++ piece)) closed_run
-    (subst (λ l. HasClosed manner first new after l) (up_to_rest before done part rest piece raw is_ended_part split)
-    (HasClosed-line manner first old new tally after line (before ++ done) (before_end part) rest come raw.0
+    → ((raw : List ℕ) → Says ended raw → tally.closed ≡ false → RunsLine options raw old new tally after)
+    → after.closed ≡ true → (done ++ part) ++ rest ≡ piece → ComesTo options first new after next (before ++ piece)
+came_to_quit options first old new tally after line longer ended next before done part front rest piece come raw is_ended_part same push end_line runs closed_run split =
+    let says = says_line options first old tally line longer ended (before ++ done) part front come raw same push end_line in
+    in_true after.closed (HasClosed options first new after (before ++ piece)) (ScriptHasCome options first new after next (before ++ piece)) closed_run
+    (subst (λ l. HasClosed options first new after l) (up_to_rest before done part rest piece raw is_ended_part split)
+    (HasClosed-line options first old new tally after line (before ++ done) (before_end part) rest come raw.0
     (runs ((come.begun ++ before_end part) ++ 10 ∷ []) says come.open_run) closed_run))
 
 -- a line was ended, and a write failed at it
-pub stopped_at_line : (manner : Manner) (first old new : ScriptState) (tally : Tally) (line longer ended : HeldLine) (before done part front rest piece more : List ℕ)
-    → ScriptHasCome manner first old tally line (before ++ done) → IsRaw part → is_ended part ≡ true → front ≡ before_end part
+pub stopped_at_line : (options : RunOptions) (first old new : ScriptState) (tally : Tally) (line longer ended : HeldLine) (before done part front rest piece more : List ℕ)
+    → ScriptHasCome options first old tally line (before ++ done) → IsRaw part → is_ended part ≡ true → front ≡ before_end part
     → ((begun : List ℕ) → Holds line begun → Holds longer (begun ++ front))
     → ((begun : List ℕ) → Holds longer begun → IsOpen begun → Says ended (begun ++ 10 ∷ []))
-    → ((raw : List ℕ) → Says ended raw → tally.closed ≡ false → StopsInLine manner raw old new tally)
-    → (done ++ part) ++ rest ≡ piece → StoppedAt manner first new (lines_of ((before ++ piece) ++ more))
-stopped_at_line manner first old new tally line longer ended before done part front rest piece more come raw is_ended_part same push end_line stops split =
-    let says = says_line manner first old tally line longer ended (before ++ done) part front come raw same push end_line in
-    subst (λ l. StoppedAt manner first new (lines_of (l ++ more))) (up_to_rest before done part rest piece raw is_ended_part split)
-    (StoppedAt-ended manner first old new tally line (before ++ done) (before_end part) rest more come raw.0
+    → ((raw : List ℕ) → Says ended raw → tally.closed ≡ false → StopsInLine options raw old new tally)
+    → (done ++ part) ++ rest ≡ piece → StoppedAt options first new (lines_of ((before ++ piece) ++ more))
+stopped_at_line options first old new tally line longer ended before done part front rest piece more come raw is_ended_part same push end_line stops split =
+    let says = says_line options first old tally line longer ended (before ++ done) part front come raw same push end_line in
+    subst (λ l. StoppedAt options first new (lines_of (l ++ more))) (up_to_rest before done part rest piece raw is_ended_part split)
+    (StoppedAt-ended options first old new tally line (before ++ done) (before_end part) rest more come raw.0
     (stops ((come.begun ++ before_end part) ++ 10 ∷ []) says come.open_run))
 
 -- the end of a step, by whether a `quit` was accepted
-pub has_closed : (manner : Manner) (first stand : ScriptState) (tally : Tally) (line : HeldLine) (bytes : List ℕ)
-    → tally.closed ≡ true → ComesTo manner first stand tally line bytes → HasClosed manner first stand tally bytes
-has_closed manner first stand tally line bytes closed_run comes =
-    of_true tally.closed (HasClosed manner first stand tally bytes) (ScriptHasCome manner first stand tally line bytes) closed_run comes
+pub has_closed : (options : RunOptions) (first reached : ScriptState) (tally : Tally) (line : HeldLine) (bytes : List ℕ)
+    → tally.closed ≡ true → ComesTo options first reached tally line bytes → HasClosed options first reached tally bytes
+has_closed options first reached tally line bytes closed_run comes =
+    of_true tally.closed (HasClosed options first reached tally bytes) (ScriptHasCome options first reached tally line bytes) closed_run comes
 
-pub has_come : (manner : Manner) (first stand : ScriptState) (tally : Tally) (line : HeldLine) (bytes : List ℕ)
-    → tally.closed ≡ false → ComesTo manner first stand tally line bytes → ScriptHasCome manner first stand tally line bytes
-has_come manner first stand tally line bytes open_run comes =
-    of_false tally.closed (HasClosed manner first stand tally bytes) (ScriptHasCome manner first stand tally line bytes) open_run comes
+pub has_come : (options : RunOptions) (first reached : ScriptState) (tally : Tally) (line : HeldLine) (bytes : List ℕ)
+    → tally.closed ≡ false → ComesTo options first reached tally line bytes → ScriptHasCome options first reached tally line bytes
+has_come options first reached tally line bytes open_run comes =
+    of_false tally.closed (HasClosed options first reached tally bytes) (ScriptHasCome options first reached tally line bytes) open_run comes

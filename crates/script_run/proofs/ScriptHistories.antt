@@ -38,8 +38,8 @@ use Rattle.script_commands.specs.WordCounts.{no_word, one_word, at_most_one, wor
 use Rattle.script_commands.specs.FoundFile.{found_name, is_file_name}
 use Rattle.script_commands.specs.Line.{refuse_by, leave, run, commands, act_of_words, act_of_line, name_parts, read_to, save_act, undo_act, redo_act}
 use Rattle.script_run.specs.ScriptLaws.{IsReachedIn, ScriptsAreRuns, IsBlockWrite, ScriptsKeepDisksSound}
-use Rattle.script_run.specs.declared.manners.Refusals.{Refusals}
-use Rattle.script_run.specs.Transcript.{Manner, RunProgress, Line, Transcript, IsSilent, counted_progress}
+use Rattle.script_run.specs.declared.run_options.Refusals.{Refusals}
+use Rattle.script_run.specs.Transcript.{RunOptions, RunProgress, Line, Transcript, IsSilent, counted_progress}
 use Rattle.script_text.specs.declared.status.Status.{Status}
 use Rattle.script_text.specs.declared.status.Status.TheVariants.{LongLine, UnknownCommand}
 
@@ -276,12 +276,12 @@ one_of IsOne history false false act leads = leads
 abbrev AsksIn : List ℕ → Asked → Type 0
 AsksIn line request = IsBlockWrite line ⊎ KeepsDisksSound request
 
-line-leads : (manner : Manner) (history : History) (line : List ℕ) → IfSome (act_of_line manner.home history line) (Leads (AsksIn line) history)
+line-leads : (options : RunOptions) (history : History) (line : List ℕ) → IfSome (act_of_line options.home history line) (Leads (AsksIn line) history)
 unfolding act_of_line
-line-leads manner history line =
+line-leads options history line =
     one_of (AsksIn line) history (is_too_long line) (is_skipped (text_of line)) _
     (after_found (AsksIn line) history (words_of (text_of line)) _ _
-    (λ words cut. words-lead (AsksIn line) manner.home history words (λ request keeps. inr keeps)
+    (λ words cut. words-lead (AsksIn line) options.home history words (λ request keeps. inr keeps)
     (λ more is request. inl (record { words = more; cut = cut ∙ ap Some is }))))
 
 -- if a call can be refused, what follows it leads
@@ -323,14 +323,14 @@ asked-leads refusals IsOne history (Some act) progress out left here leads done 
     (done-leads IsOne history act progress.world answer world here leads does)
 
 -- a line of a run
-one_line : (manner : Manner) (line : List ℕ) (closed : Bool) (progress : RunProgress) (out : List ℕ) (left : RunProgress)
-    → MatchBool closed (IsSilent progress out left) (Line manner line progress out left)
+one_line : (options : RunOptions) (line : List ℕ) (closed : Bool) (progress : RunProgress) (out : List ℕ) (left : RunProgress)
+    → MatchBool closed (IsSilent progress out left) (Line options line progress out left)
     → IsStepFrom (AsksIn line) progress.world.history left.world.history
 unfolding Line
-one_line manner line true progress out left silent = inl (ap (λ (p : RunProgress). p.world.history) silent.1)
-one_line manner line false progress out left said =
+one_line options line true progress out left silent = inl (ap (λ (p : RunProgress). p.world.history) silent.1)
+one_line options line false progress out left said =
     let history = progress.world.history in
-    asked-leads manner.refusals (AsksIn line) history (act_of_line manner.home history line) progress out left refl (line-leads manner history line) said
+    asked-leads options.refusals (AsksIn line) history (act_of_line options.home history line) progress out left refl (line-leads options history line) said
 
 -- ---- the laws
 
@@ -355,17 +355,17 @@ step_more IsOne count all before between left more (inr step) reached =
 -- what the lines of a script leave of the history is what a run of requests leaves
 pub scripts-are_runs : ScriptsAreRuns
 unfolding Transcript
-scripts-are_runs manner [] progress out left silent = record {
+scripts-are_runs options [] progress out left silent = record {
   requests = [];
   answers = [];
   few = omega arith;
   run = ap (λ (p : RunProgress). p.world.history) silent.1;
 }
-scripts-are_runs manner (line ∷ lines) progress out left told =
-    let (said, more, middle, split, one, others) = told in
+scripts-are_runs options (line ∷ lines) progress out left reported =
+    let (said, more, middle, split, one, others) = reported in
     step_more (AsksIn line) (length lines) (length (line ∷ lines)) progress.world.history middle.world.history left.world.history (omega arith)
-    (one_line manner line progress.closed progress said middle one)
-    (scripts-are_runs manner lines middle more left others)
+    (one_line options line progress.closed progress said middle one)
+    (scripts-are_runs options lines middle more left others)
 
 -- a line that is no block write leaves sound disks
 line-sound : (line : List ℕ) (before after : History) → ¬ (IsBlockWrite line) → IsStepFrom (AsksIn line) before after
@@ -377,10 +377,10 @@ line-sound line before after other (inr (request, answer, inr keeps, step)) hold
 -- and so do lines without block writes
 pub scripts-keep_disks_sound : ScriptsKeepDisksSound
 unfolding Transcript
-scripts-keep_disks_sound manner [] progress out left silent none holds =
+scripts-keep_disks_sound options [] progress out left silent none holds =
     subst (λ (p : RunProgress). HoldsSoundDisks p.world.history) (sym silent.1) holds
-scripts-keep_disks_sound manner (line ∷ lines) progress out left told none holds =
-    let (said, more, middle, split, one, others) = told in
-    scripts-keep_disks_sound manner lines middle more left others (All-tail (λ l. ¬ (IsBlockWrite l)) line lines none)
+scripts-keep_disks_sound options (line ∷ lines) progress out left reported none holds =
+    let (said, more, middle, split, one, others) = reported in
+    scripts-keep_disks_sound options lines middle more left others (All-tail (λ l. ¬ (IsBlockWrite l)) line lines none)
     (line-sound line progress.world.history middle.world.history (All-head (λ l. ¬ (IsBlockWrite l)) line lines none)
-    (one_line manner line progress.closed progress said middle one) holds)
+    (one_line options line progress.closed progress said middle one) holds)

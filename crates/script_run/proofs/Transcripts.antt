@@ -4,35 +4,35 @@ use Rattle.std.specs.Prelude.{MatchBool, MatchOption}
 use Rattle.script_commands.specs.Act.{printed_bytes, Act, Ending, Does, LineAnswer, World}
 use Rattle.script_commands.specs.Line.{act_of_line, IsSkipped, IsAnswered}
 use Rattle.script_text.specs.Status.{is_accepted}
-use Rattle.script_run.specs.Transcript.{ends_script, Manner, RunProgress, Line, Transcript, IsSilent, counted_progress}
+use Rattle.script_run.specs.Transcript.{ends_script, RunOptions, RunProgress, Line, Transcript, IsSilent, counted_progress}
 
 -- a line that prints is one of the open run
-answered_by : (manner : Manner) (asked : Option (Act Ending)) (progress : RunProgress) (answer : LineAnswer) (world : World)
+answered_by : (options : RunOptions) (asked : Option (Act Ending)) (progress : RunProgress) (answer : LineAnswer) (world : World)
     → MatchOption asked ⊥ (λ act. Does act progress.world answer world)
-    → MatchOption asked (IsSilent progress (printed_bytes answer) (counted_progress manner.refusals progress answer world))
+    → MatchOption asked (IsSilent progress (printed_bytes answer) (counted_progress options.refusals progress answer world))
     (λ act. (said : LineAnswer) × (left : World)
-    × Does act progress.world said left × (printed_bytes answer ≡ printed_bytes said) × (counted_progress manner.refusals progress answer world ≡ counted_progress manner.refusals progress said left))
-answered_by manner None progress answer world done = absurd done
-answered_by manner (Some act) progress answer world done = (answer, world, done, refl, refl)
+    × Does act progress.world said left × (printed_bytes answer ≡ printed_bytes said) × (counted_progress options.refusals progress answer world ≡ counted_progress options.refusals progress said left))
+answered_by options None progress answer world done = absurd done
+answered_by options (Some act) progress answer world done = (answer, world, done, refl, refl)
 
-pub Line-answered : (manner : Manner) (line : List ℕ) (progress : RunProgress) (answer : LineAnswer) (world : World)
-    → IsAnswered manner.home progress.world.history line progress.world answer world
-    → Line manner line progress (printed_bytes answer) (counted_progress manner.refusals progress answer world)
+pub Line-answered : (options : RunOptions) (line : List ℕ) (progress : RunProgress) (answer : LineAnswer) (world : World)
+    → IsAnswered options.home progress.world.history line progress.world answer world
+    → Line options line progress (printed_bytes answer) (counted_progress options.refusals progress answer world)
 unfolding Line
-Line-answered manner line progress answer world done = answered_by manner (act_of_line manner.home progress.world.history line) progress answer world done
+Line-answered options line progress answer world done = answered_by options (act_of_line options.home progress.world.history line) progress answer world done
 
 -- a line that is skipped is silent
-skipped_by : (manner : Manner) (asked : Option (Act Ending)) (progress : RunProgress) → asked ≡ None
+skipped_by : (options : RunOptions) (asked : Option (Act Ending)) (progress : RunProgress) → asked ≡ None
     → MatchOption asked (IsSilent progress [] progress)
     (λ act. (said : LineAnswer) × (left : World)
-    × Does act progress.world said left × ([] ≡ printed_bytes said) × (progress ≡ counted_progress manner.refusals progress said left))
-skipped_by manner None progress none = (refl, refl)
-skipped_by manner (Some act) progress none = cc
+    × Does act progress.world said left × ([] ≡ printed_bytes said) × (progress ≡ counted_progress options.refusals progress said left))
+skipped_by options None progress none = (refl, refl)
+skipped_by options (Some act) progress none = cc
 
-pub Line-skipped : (manner : Manner) (line : List ℕ) (progress : RunProgress) → act_of_line manner.home progress.world.history line ≡ None
-    → Line manner line progress [] progress
+pub Line-skipped : (options : RunOptions) (line : List ℕ) (progress : RunProgress) → act_of_line options.home progress.world.history line ≡ None
+    → Line options line progress [] progress
 unfolding Line
-Line-skipped manner line progress none = skipped_by manner (act_of_line manner.home progress.world.history line) progress none
+Line-skipped options line progress none = skipped_by options (act_of_line options.home progress.world.history line) progress none
 
 -- what a line says in an open run
 open_line : (closed : Bool) (P Q : Type 0) → closed ≡ false → Q → MatchBool closed P Q
@@ -45,78 +45,78 @@ closed_line true P Q ended p = p
 closed_line false P Q ended p = cc
 
 -- one line more
-pub Transcript-line : (manner : Manner) (lines : List (List ℕ)) (line : List ℕ) (start : RunProgress) (out said : List ℕ) (middle after : RunProgress)
-    → Transcript manner lines start out middle → middle.closed ≡ false → Line manner line middle said after
-    → Transcript manner (lines ++ line ∷ []) start (out ++ said) after
+pub Transcript-line : (options : RunOptions) (lines : List (List ℕ)) (line : List ℕ) (start : RunProgress) (out said : List ℕ) (middle after : RunProgress)
+    → Transcript options lines start out middle → middle.closed ≡ false → Line options line middle said after
+    → Transcript options (lines ++ line ∷ []) start (out ++ said) after
 unfolding Transcript
-Transcript-line manner [] line start out said middle after told opened more =
-    let P : RunProgress → Type 0 = λ p. Line manner line p said after in
-    let same : middle ≡ start = told.1 in (
+Transcript-line options [] line start out said middle after reported opened more =
+    let P : RunProgress → Type 0 = λ p. Line options line p said after in
+    let same : middle ≡ start = reported.1 in (
       said,
       [],
       after,
-      ap (λ l. l ++ said) told.0 ∙ sym (append-nil said),
-      open_line start.closed (IsSilent start said after) (Line manner line start said after) (ap (λ p. p.closed) (sym same) ∙ opened) (subst P same more),
+      ap (λ l. l ++ said) reported.0 ∙ sym (append-nil said),
+      open_line start.closed (IsSilent start said after) (Line options line start said after) (ap (λ p. p.closed) (sym same) ∙ opened) (subst P same more),
       (refl, refl),
     )
-Transcript-line manner (first ∷ lines) line start out said middle after told opened more =
-    let (said_first, rest, next, split, one, others) = told in (
+Transcript-line options (first ∷ lines) line start out said middle after reported opened more =
+    let (said_first, rest, next, split, one, others) = reported in (
       said_first,
       rest ++ said,
       next,
       ap (λ l. l ++ said) split ∙ append_assoc said_first rest said,
       one,
-      Transcript-line manner lines line next rest said middle after others opened more,
+      Transcript-line options lines line next rest said middle after others opened more,
     )
 
 -- after the run's end lines are silent
-pub Transcript-silent : (manner : Manner) (lines : List (List ℕ)) (start : RunProgress) → start.closed ≡ true → Transcript manner lines start [] start
+pub Transcript-silent : (options : RunOptions) (lines : List (List ℕ)) (start : RunProgress) → start.closed ≡ true → Transcript options lines start [] start
 unfolding Transcript
-Transcript-silent manner [] start ended = (refl, refl)
-Transcript-silent manner (line ∷ lines) start ended = (
+Transcript-silent options [] start ended = (refl, refl)
+Transcript-silent options (line ∷ lines) start ended = (
   [],
   [],
   start,
   refl,
-  closed_line start.closed (IsSilent start [] start) (Line manner line start [] start) ended (refl, refl),
-  Transcript-silent manner lines start ended,
+  closed_line start.closed (IsSilent start [] start) (Line options line start [] start) ended (refl, refl),
+  Transcript-silent options lines start ended,
 )
 
 -- the lines after the run's end change nothing
-pub Transcript-closed : (manner : Manner) (lines more : List (List ℕ)) (start : RunProgress) (out : List ℕ) (after : RunProgress)
-    → Transcript manner lines start out after → after.closed ≡ true → Transcript manner (lines ++ more) start out after
+pub Transcript-closed : (options : RunOptions) (lines more : List (List ℕ)) (start : RunProgress) (out : List ℕ) (after : RunProgress)
+    → Transcript options lines start out after → after.closed ≡ true → Transcript options (lines ++ more) start out after
 unfolding Transcript
-Transcript-closed manner [] more start out after told ended =
-    let P : RunProgress → Type 0 = λ p. Transcript manner more start [] p in
-    let Q : List ℕ → Type 0 = λ l. Transcript manner more start l after in
-    subst Q (sym told.0) (subst P (sym told.1) (Transcript-silent manner more start (ap (λ p. p.closed) (sym told.1) ∙ ended)))
-Transcript-closed manner (line ∷ lines) more start out after told ended =
-    let (said, rest, next, split, one, others) = told in
-    (said, rest, next, split, one, Transcript-closed manner lines more next rest after others ended)
+Transcript-closed options [] more start out after reported ended =
+    let P : RunProgress → Type 0 = λ p. Transcript options more start [] p in
+    let Q : List ℕ → Type 0 = λ l. Transcript options more start l after in
+    subst Q (sym reported.0) (subst P (sym reported.1) (Transcript-silent options more start (ap (λ p. p.closed) (sym reported.1) ∙ ended)))
+Transcript-closed options (line ∷ lines) more start out after reported ended =
+    let (said, rest, next, split, one, others) = reported in
+    (said, rest, next, split, one, Transcript-closed options lines more next rest after others ended)
 
 -- the run after a line that has printed: one more line is counted
-pub Transcript-answered : (manner : Manner) (lines : List (List ℕ)) (line : List ℕ) (start : RunProgress) (out : List ℕ) (world after : World)
+pub Transcript-answered : (options : RunOptions) (lines : List (List ℕ)) (line : List ℕ) (start : RunProgress) (out : List ℕ) (world after : World)
     (accepted refused accepted' refused' : ℕ) (closed' : Bool) (answer : LineAnswer)
-    → Transcript manner lines start out (record { world = world; closed = false; accepted = accepted; refused = refused })
-    → IsAnswered manner.home world.history line world answer after
-    → closed' ≡ (answer.closes || ends_script manner.refusals answer.status)
+    → Transcript options lines start out (record { world = world; closed = false; accepted = accepted; refused = refused })
+    → IsAnswered options.home world.history line world answer after
+    → closed' ≡ (answer.closes || ends_script options.refusals answer.status)
     → accepted' ≡ accepted + (if is_accepted answer.status then 1 else 0)
     → refused' ≡ refused + (if is_accepted answer.status then 0 else 1)
-    → Transcript manner (lines ++ line ∷ []) start (out ++ printed_bytes answer)
+    → Transcript options (lines ++ line ∷ []) start (out ++ printed_bytes answer)
     (record { world = after; closed = closed'; accepted = accepted'; refused = refused' })
-Transcript-answered manner lines line start out world after accepted refused accepted' refused' closed' answer told done closes more_accepted more_refused =
+Transcript-answered options lines line start out world after accepted refused accepted' refused' closed' answer reported done closes more_accepted more_refused =
     let middle : RunProgress = record { world = world; closed = false; accepted = accepted; refused = refused } in
     rw (closes, more_accepted, more_refused)
-    (Transcript-line manner lines line start out (printed_bytes answer) middle (counted_progress manner.refusals middle answer after) told refl (Line-answered manner line middle answer after done))
+    (Transcript-line options lines line start out (printed_bytes answer) middle (counted_progress options.refusals middle answer after) reported refl (Line-answered options line middle answer after done))
 
 -- the run after a line that was skipped: nothing is printed
-pub Transcript-skipped : (manner : Manner) (lines : List (List ℕ)) (line : List ℕ) (start : RunProgress) (out : List ℕ) (world after : World) (accepted refused : ℕ)
-    → Transcript manner lines start out (record { world = world; closed = false; accepted = accepted; refused = refused })
-    → IsSkipped manner.home world.history line world after
-    → Transcript manner (lines ++ line ∷ []) start out (record { world = after; closed = false; accepted = accepted; refused = refused })
-Transcript-skipped manner lines line start out world after accepted refused told skipped =
+pub Transcript-skipped : (options : RunOptions) (lines : List (List ℕ)) (line : List ℕ) (start : RunProgress) (out : List ℕ) (world after : World) (accepted refused : ℕ)
+    → Transcript options lines start out (record { world = world; closed = false; accepted = accepted; refused = refused })
+    → IsSkipped options.home world.history line world after
+    → Transcript options (lines ++ line ∷ []) start out (record { world = after; closed = false; accepted = accepted; refused = refused })
+Transcript-skipped options lines line start out world after accepted refused reported skipped =
     let at : World → RunProgress = λ w. record { world = w; closed = false; accepted = accepted; refused = refused } in
-    let P : List ℕ → Type 0 = λ l. Transcript manner (lines ++ line ∷ []) start l (at world) in
-    let Q : World → Type 0 = λ w. Transcript manner (lines ++ line ∷ []) start out (at w) in
+    let P : List ℕ → Type 0 = λ l. Transcript options (lines ++ line ∷ []) start l (at world) in
+    let Q : World → Type 0 = λ w. Transcript options (lines ++ line ∷ []) start out (at w) in
     subst Q (sym skipped.1)
-    (subst P (append-nil out) (Transcript-line manner lines line start out [] (at world) (at world) told refl (Line-skipped manner line (at world) skipped.0)))
+    (subst P (append-nil out) (Transcript-line options lines line start out [] (at world) (at world) reported refl (Line-skipped options line (at world) skipped.0)))

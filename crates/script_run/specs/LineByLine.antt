@@ -5,7 +5,7 @@ use Rattle.script_text.specs.Output.{AppendsPart}
 use Rattle.std.specs.Io.KnownBytes.{Appends}
 use Rattle.script_text.specs.RawLines.{is_ended, lines_of}
 use Rattle.script_commands.specs.Act.{World}
-use Rattle.script_run.specs.Transcript.{Manner, RunProgress, Line}
+use Rattle.script_run.specs.Transcript.{RunOptions, RunProgress, Line}
 use Rattle.script_run.specs.Runner.{ScriptState, RanLines, StoppedAt}
 use Rattle.script_text.specs.declared.held_line.HeldLine.{HeldLine}
 use Rattle.script_run.specs.declared.runner.Tally.{Tally}
@@ -26,42 +26,42 @@ pub record AreCutInto (bytes : List ℕ) (lines : List (List ℕ)) (begun : List
 
 -- an open run has come through the first bytes of a script: their ended lines have run, and the
 -- rest of them is held
-pub record ScriptHasCome (manner : Manner) (first stand : ScriptState) (tally : Tally) (line : HeldLine) (bytes : List ℕ) : Type 0 where
+pub record ScriptHasCome (options : RunOptions) (first reached : ScriptState) (tally : Tally) (line : HeldLine) (bytes : List ℕ) : Type 0 where
   pub lines : List (List ℕ)
   pub begun : List ℕ
   pub cut : AreCutInto bytes lines begun
-  pub ran : RanLines manner first stand lines (progress_of tally stand.world)
+  pub ran : RanLines options first reached lines (progress_of tally reached.world)
   pub held : Holds line begun
   pub open_run : tally.closed ≡ false
 
 -- the run has ended: it has run the script, whatever comes after these first bytes
-pub record HasClosed (manner : Manner) (first stand : ScriptState) (tally : Tally) (bytes : List ℕ) : Type 0 where
-  pub ran : (more : List ℕ) → RanLines manner first stand (lines_of (bytes ++ more)) (progress_of tally stand.world)
+pub record HasClosed (options : RunOptions) (first reached : ScriptState) (tally : Tally) (bytes : List ℕ) : Type 0 where
+  pub ran : (more : List ℕ) → RanLines options first reached (lines_of (bytes ++ more)) (progress_of tally reached.world)
   pub closed_run : tally.closed ≡ true
 
 -- a run has come through the first bytes of a script, or has ended among them
-abbrev pub ComesTo : Manner → ScriptState → ScriptState → Tally → HeldLine → List ℕ → Type 0
-ComesTo manner first stand tally line bytes =
-    MatchBool tally.closed (HasClosed manner first stand tally bytes) (ScriptHasCome manner first stand tally line bytes)
+abbrev pub ComesTo : RunOptions → ScriptState → ScriptState → Tally → HeldLine → List ℕ → Type 0
+ComesTo options first reached tally line bytes =
+    MatchBool tally.closed (HasClosed options first reached tally bytes) (ScriptHasCome options first reached tally line bytes)
 
 -- the run ends with its script: all lines have run, or a write failed at one of them
-abbrev pub EndsRun : Manner → ScriptState → ScriptState → List ℕ → Result Outcome ShellFault → Type 0
-EndsRun manner first stand script ended =
+abbrev pub EndsRun : RunOptions → ScriptState → ScriptState → List ℕ → Result Outcome ShellFault → Type 0
+EndsRun options first reached script ended =
     MatchResult ended
-    (λ outcome. (after : RunProgress) × RanLines manner first stand (lines_of script) after × (outcome.accepted ≡ after.accepted) × (outcome.refused ≡ after.refused))
-    (λ fault. (fault ≡ Write) × StoppedAt manner first stand (lines_of script))
+    (λ outcome. (after : RunProgress) × RanLines options first reached (lines_of script) after × (outcome.accepted ≡ after.accepted) × (outcome.refused ≡ after.refused))
+    (λ fault. (fault ≡ Write) × StoppedAt options first reached (lines_of script))
 
 -- a line of an open run has run, and what it prints was written
-pub record RunsLine (manner : Manner) (line : List ℕ) (old new : ScriptState) (before after : Tally) : Type 0 where
+pub record RunsLine (options : RunOptions) (line : List ℕ) (old new : ScriptState) (before after : Tally) : Type 0 where
   pub said : List ℕ
-  pub told : Line manner line (progress_of before old.world) said (progress_of after new.world)
+  pub reported : Line options line (progress_of before old.world) said (progress_of after new.world)
   pub written : Appends old.writer new.writer said
 
 -- a write failed at a line of an open run: a part of what it prints was written, and the world is
 -- that after the line
-pub record StopsInLine (manner : Manner) (line : List ℕ) (old new : ScriptState) (before : Tally) : Type 0 where
+pub record StopsInLine (options : RunOptions) (line : List ℕ) (old new : ScriptState) (before : Tally) : Type 0 where
   pub said : List ℕ
   pub after : RunProgress
-  pub told : Line manner line (progress_of before old.world) said after
+  pub reported : Line options line (progress_of before old.world) said after
   pub part : AppendsPart old.writer new.writer said
   pub world : new.world ≡ after.world

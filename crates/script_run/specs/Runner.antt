@@ -4,17 +4,17 @@ use Rattle.std.specs.Io.KnownBytes.{Appends, Consumes}
 use Rattle.script_text.specs.Input.{Reading, IsUnreadable}
 use Rattle.script_text.specs.RawLines.{lines_of, ended_lines}
 use Rattle.script_commands.specs.Act.{World}
-use Rattle.script_run.specs.Transcript.{Manner, RunProgress, Line, Transcript}
+use Rattle.script_run.specs.Transcript.{RunOptions, RunProgress, Line, Transcript}
 use Rattle.script_text.specs.Script.{script_limit}
 use Rattle.script_run.specs.declared.runner.Outcome.{Outcome}
 use Rattle.script_run.specs.declared.runner.ShellFault.{ShellFault}
 use Rattle.script_run.specs.declared.runner.ShellFault.TheVariants.{Read, Write, Memory}
 use Rattle.script_run.specs.declared.runner.Tally.{Tally}
-use Rattle.script_run.specs.declared.manners.Manner.{Manner as CodeManner}
+use Rattle.script_run.specs.declared.run_options.RunOptions.{RunOptions as CodeOptions}
 
 -- how the code's script is run
-abbrev pub manner_of : CodeManner → Manner
-manner_of manner = record { home = manner.home.now; refusals = manner.refusals }
+abbrev pub options_of : CodeOptions → RunOptions
+options_of options = record { home = options.home.now; refusals = options.refusals }
 
 -- the writer's bytes, if they are known, and the world on which a run works
 pub record ScriptState : Type 0 where
@@ -29,9 +29,9 @@ abbrev pub first_progress : World → RunProgress
 first_progress world = record { world = world; closed = false; accepted = 0; refused = 0 }
 
 -- lines have run: what they print was written, and the world is that after them
-pub record RanLines (manner : Manner) (old new : ScriptState) (lines : List (List ℕ)) (after : RunProgress) : Type 0 where
+pub record RanLines (options : RunOptions) (old new : ScriptState) (lines : List (List ℕ)) (after : RunProgress) : Type 0 where
   pub out : List ℕ
-  pub told : Transcript manner lines (first_progress old.world) out after
+  pub reported : Transcript options lines (first_progress old.world) out after
   pub written : Appends old.writer new.writer out
   pub world : new.world ≡ after.world
 
@@ -42,18 +42,18 @@ Counts tally after =
 
 -- a write failed at a line: what the lines before it print was written, and a part of what it
 -- prints; the world is that after the line
-pub record StoppedAt (manner : Manner) (old new : ScriptState) (lines : List (List ℕ)) : Type 0 where
+pub record StoppedAt (options : RunOptions) (old new : ScriptState) (lines : List (List ℕ)) : Type 0 where
   pub before : List (List ℕ)
   pub line : List ℕ
   pub rest : List (List ℕ)
   pub split : before ++ line ∷ rest ≡ lines
   pub out : List ℕ
   pub middle : RunProgress
-  pub told : Transcript manner before (first_progress old.world) out middle
+  pub reported : Transcript options before (first_progress old.world) out middle
   pub open_run : middle.closed ≡ false
   pub answer : List ℕ
   pub after : RunProgress
-  pub answered : Line manner line middle answer after
+  pub answered : Line options line middle answer after
   pub part : List ℕ
   pub unwritten : List ℕ
   pub parts : part ++ unwritten ≡ answer
@@ -61,35 +61,35 @@ pub record StoppedAt (manner : Manner) (old new : ScriptState) (lines : List (Li
   pub world : new.world ≡ after.world
 
 -- the whole script has run, and the outcome has the counts of its lines
-pub record RanWhole (manner : Manner) (reader : Option (List ℕ)) (old new : ScriptState) (outcome : Outcome) : Type 0 where
+pub record RanWhole (options : RunOptions) (reader : Option (List ℕ)) (old new : ScriptState) (outcome : Outcome) : Type 0 where
   pub script : List ℕ
   pub all : IfSome reader (λ bytes. script ≡ bytes)
   pub after : RunProgress
-  pub ran : RanLines manner old new (lines_of script) after
+  pub ran : RanLines options old new (lines_of script) after
   pub accepted : outcome.accepted ≡ after.accepted
   pub refused : outcome.refused ≡ after.refused
 
 -- reading failed: the lines that were ended before have run, and did not end the run
-pub record RanRead (manner : Manner) (reader left : Option (List ℕ)) (old new : ScriptState) : Type 0 where
+pub record RanRead (options : RunOptions) (reader left : Option (List ℕ)) (old new : ScriptState) : Type 0 where
   pub consumed : List ℕ
   pub lost : Consumes reader left consumed
   pub after : RunProgress
-  pub ran : RanLines manner old new (ended_lines (take script_limit consumed)) after
+  pub ran : RanLines options old new (ended_lines (take script_limit consumed)) after
   pub open_run : after.closed ≡ false
 
 -- writing failed at a line of the script
-pub record RanUpTo (manner : Manner) (reader : Option (List ℕ)) (old new : ScriptState) : Type 0 where
+pub record RanUpTo (options : RunOptions) (reader : Option (List ℕ)) (old new : ScriptState) : Type 0 where
   pub script : List ℕ
   pub all : IfSome reader (λ bytes. script ≡ bytes)
-  pub stopped : StoppedAt manner old new (lines_of script)
+  pub stopped : StoppedAt options old new (lines_of script)
 
 -- the effect of a run, by how it ends; it allocates nothing but in commands, so `Memory` never
 -- comes
-abbrev pub Ran : Manner → Option (List ℕ) → Option (List ℕ) → ScriptState → ScriptState → Result Outcome ShellFault → Type 0
-Ran manner reader left old new (Ok outcome) = RanWhole manner reader old new outcome
-Ran manner reader left old new (Err Read) = RanRead manner reader left old new
-Ran manner reader left old new (Err Write) = RanUpTo manner reader old new
-Ran manner reader left old new (Err (Memory error)) = ⊥
+abbrev pub Ran : RunOptions → Option (List ℕ) → Option (List ℕ) → ScriptState → ScriptState → Result Outcome ShellFault → Type 0
+Ran options reader left old new (Ok outcome) = RanWhole options reader old new outcome
+Ran options reader left old new (Err Read) = RanRead options reader left old new
+Ran options reader left old new (Err Write) = RanUpTo options reader old new
+Ran options reader left old new (Err (Memory error)) = ⊥
 
 -- how the streams of a run ended: without a failure if the run came to its end; if it is a fault of
 -- reading, a read failed or a limit was passed, and no write or flush failed; if it is a fault of

@@ -6,7 +6,7 @@ use Rattle.d64_undo.specs.SoundHistory.{HoldsSoundDisks}
 use Rattle.d64_undo.specs.declared.request.Answer.{Answer}
 use Rattle.script_text.specs.RawLines.{text_of}
 use Rattle.script_text.specs.Words.{words_of}
-use Rattle.script_run.specs.Transcript.{Manner, RunProgress, Transcript}
+use Rattle.script_run.specs.Transcript.{RunOptions, RunProgress, Transcript}
 
 -- a run of at most n requests leads from one history to another
 pub record IsReachedIn (most : ℕ) (before after : History) : Type 0 where
@@ -18,8 +18,8 @@ pub record IsReachedIn (most : ℕ) (before after : History) : Type 0 where
 -- a script changes the history as a run of requests does, with at most one request for each line
 abbrev pub ScriptsAreRuns : Type 0
 ScriptsAreRuns =
-    (manner : Manner) (lines : List (List ℕ)) (progress : RunProgress) (out : List ℕ) (after : RunProgress)
-    → Transcript manner lines progress out after
+    (options : RunOptions) (lines : List (List ℕ)) (progress : RunProgress) (out : List ℕ) (after : RunProgress)
+    → Transcript options lines progress out after
     → IsReachedIn (length lines) progress.world.history after.world.history
 
 -- the first word of a line is that of a block write
@@ -30,6 +30,6 @@ pub record IsBlockWrite (line : List ℕ) : Type 0 where
 -- lines without block writes leave sound disks sound, whatever the host does
 abbrev pub ScriptsKeepDisksSound : Type 0
 ScriptsKeepDisksSound =
-    (manner : Manner) (lines : List (List ℕ)) (progress : RunProgress) (out : List ℕ) (after : RunProgress)
-    → Transcript manner lines progress out after → All (λ line. ¬ (IsBlockWrite line)) lines
+    (options : RunOptions) (lines : List (List ℕ)) (progress : RunProgress) (out : List ℕ) (after : RunProgress)
+    → Transcript options lines progress out after → All (λ line. ¬ (IsBlockWrite line)) lines
     → HoldsSoundDisks progress.world.history → HoldsSoundDisks after.world.history

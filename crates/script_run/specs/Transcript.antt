@@ -4,17 +4,17 @@ use Rattle.script_commands.specs.Act.{Does, LineAnswer, World, printed_bytes}
 use Rattle.script_commands.specs.Line.{act_of_line}
 use Rattle.script_text.specs.Status.{is_accepted}
 use Rattle.script_text.specs.declared.status.Status.{Status}
-use Rattle.script_run.specs.declared.manners.Refusals.{Refusals}
-use Rattle.script_run.specs.declared.manners.Refusals.TheVariants.{GoOn, Stop}
+use Rattle.script_run.specs.declared.run_options.Refusals.{Refusals}
+use Rattle.script_run.specs.declared.run_options.Refusals.TheVariants.{GoOn, Stop}
 
 -- how a script is run: the name of the host file in which `save` stores by default, and the effect
 -- of a refused line
-pub record Manner : Type 0 where
+pub record RunOptions : Type 0 where
   pub home : List ℕ
   pub refusals : Refusals
 
 -- a script that goes on after refused lines
-abbrev pub going_on : List ℕ → Manner
+abbrev pub going_on : List ℕ → RunOptions
 going_on home = record { home = home; refusals = GoOn }
 
 -- whether a line of this status ends its script: it does if the line is refused and refused lines
@@ -45,18 +45,18 @@ abbrev pub IsSilent : RunProgress → List ℕ → RunProgress → Type 0
 IsSilent progress out after = (out ≡ []) × (after ≡ progress)
 
 -- one line of a run that has not ended: it is skipped, or its command runs and prints
-unfoldable pub Line : Manner → List ℕ → RunProgress → List ℕ → RunProgress → Type 0
-Line manner line progress out after =
-    MatchOption (act_of_line manner.home progress.world.history line)
+unfoldable pub Line : RunOptions → List ℕ → RunProgress → List ℕ → RunProgress → Type 0
+Line options line progress out after =
+    MatchOption (act_of_line options.home progress.world.history line)
     (IsSilent progress out after)
     (λ act. (answer : LineAnswer) × (world : World)
-    × Does act progress.world answer world × (out ≡ printed_bytes answer) × (after ≡ counted_progress manner.refusals progress answer world))
+    × Does act progress.world answer world × (out ≡ printed_bytes answer) × (after ≡ counted_progress options.refusals progress answer world))
 
 -- lines in turn, each with what it prints; after the run's end they print nothing
-unfoldable pub Transcript : Manner → List (List ℕ) → RunProgress → List ℕ → RunProgress → Type 0
-Transcript manner [] progress out after = IsSilent progress out after
-Transcript manner (line ∷ lines) progress out after =
+unfoldable pub Transcript : RunOptions → List (List ℕ) → RunProgress → List ℕ → RunProgress → Type 0
+Transcript options [] progress out after = IsSilent progress out after
+Transcript options (line ∷ lines) progress out after =
     (said : List ℕ) × (more : List ℕ) × (middle : RunProgress)
     × (out ≡ said ++ more)
-    × MatchBool progress.closed (IsSilent progress said middle) (Line manner line progress said middle)
-    × Transcript manner lines middle more after
+    × MatchBool progress.closed (IsSilent progress said middle) (Line options line progress said middle)
+    × Transcript options lines middle more after

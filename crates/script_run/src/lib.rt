@@ -3,10 +3,10 @@
 #![tactic(auto)]
 
 pub mod laws;
-mod listener;
-mod manners;
+mod observer;
+mod run_options;
 mod runner;
 
-pub use listener::{Listener, Nobody, Opening};
-pub use manners::{Manner, Refusals};
+pub use observer::{Nobody, Observer, Opening};
+pub use run_options::{Refusals, RunOptions};
 pub use runner::{Outcome, ScriptRunner, ShellFault, run, run_on, run_script};

@@ -10,12 +10,12 @@ ghost use Rattle.d64_undo.specs.History.{present_image};
 ghost use Rattle.script_commands.specs.Act.{world_of};
 ghost use Rattle.script_commands.specs.Line.{IsSkipped, IsAnswered};
 ghost use Rattle.script_commands.specs.Response.{shown_answer};
-ghost use Rattle.script_run.specs.Runner.{ScriptState, manner_of, script_state, Ran, StoppedAt, EndsWith};
+ghost use Rattle.script_run.specs.Runner.{ScriptState, options_of, script_state, Ran, StoppedAt, EndsWith};
 ghost use Rattle.script_run.specs.Transcript.{going_on};
 ghost use Rattle.script_run.specs.LineByLine.{ScriptHasCome, ComesTo, EndsRun, RunsLine, StopsInLine};
 
-use crate::listener::{Listener, Nobody};
-use crate::manners::{Manner, Refusals};
+use crate::observer::{Nobody, Observer};
+use crate::run_options::{Refusals, RunOptions};
 use d64_undo::Session;
 use host_storage::Host;
 use script_commands::{Response, answer_line};
@@ -95,15 +95,15 @@ impl Tally {
 }
 
 /// How far a run has come in its script: the bytes of the next line, the counts of the lines before
-/// it, and the listener.
+/// it, and the observer.
 #[derive(Drop)]
-struct RunState<'l, L: Listener> {
+struct RunState<'l, L: Observer> {
     line: HeldLine,
     tally: Tally,
-    listener: &'l mut L,
+    observer: &'l mut L,
 }
 
-impl<'l, L: Listener> RunState<'l, L> {
+impl<'l, L: Observer> RunState<'l, L> {
     ghost use Rattle.std.specs.Prelude.{[]};
     ghost use Rattle.script_text.specs.HeldLine.{Holds};
     ghost use Rattle.script_text.specs.Output.{AppendsPart};
@@ -111,20 +111,20 @@ impl<'l, L: Listener> RunState<'l, L> {
     ghost use Rattle.std.specs.Io.KnownBytes.{Appends};
 
     /// The state before anything was read.
-    fn new(listener: &'l mut L) -> RunState<'l, L>
-        ensures lent { result.listener.ghost_name ≡ listener.entry.ghost_name }
+    fn new(observer: &'l mut L) -> RunState<'l, L>
+        ensures lent { result.observer.ghost_name ≡ observer.entry.ghost_name }
         ensures line { Holds result.line [] }
         ensures tally { result.tally ≡ record { outcome = record { accepted = 0; refused = 0 }; closed = false } }
     {
         RunState {
             line: HeldLine::new(),
             tally: Tally::new(),
-            listener,
+            observer,
         }
     }
 
-    /// Writes the response to a line that left this session, and calls the listener, after a
-    /// delivery if the listener needs it.
+    /// Writes the response to a line that left this session, and calls the observer, after a
+    /// delivery if the observer needs it.
     fn write_answer<W: Write>(
         &mut self,
         home: &str,
@@ -132,7 +132,7 @@ impl<'l, L: Listener> RunState<'l, L> {
         output: &mut OutputStream<'_, W>,
         session: &Session,
     ) -> Result<(), WriteFault>
-        ensures lent { self.new.listener.ghost_name ≡ self.old.listener.ghost_name }
+        ensures lent { self.new.observer.ghost_name ≡ self.old.observer.ghost_name }
         ensures line { self.new.line ≡ self.old.line }
         ensures tally { self.new.tally ≡ self.old.tally }
         ensures same { output.new.writer.ghost_name ≡ output.old.writer.ghost_name }
@@ -141,11 +141,11 @@ impl<'l, L: Listener> RunState<'l, L> {
         ensures failed { FailsWith result output.old.has_failed output.new.has_failed }
     {
         response.write(output, session.image())?;
-        if self.listener.needs_delivery(&response.status) {
+        if self.observer.needs_delivery(&response.status) {
             deliver(output)?;
         }
-        self.listener
-            .hear(home, &self.line, &response.status, session);
+        self.observer
+            .observe(home, &self.line, &response.status, session);
         Ok(())
     }
 }
@@ -154,7 +154,7 @@ impl<'l, L: Listener> RunState<'l, L> {
 #[derive(Clone, Copy)]
 struct LineRunner<'n> {
     alloc: Global,
-    manner: Manner<'n>,
+    options: RunOptions<'n>,
 }
 
 /// Runs a script. `home` is the name of the host file in which `save` stores by default, or empty.
@@ -206,21 +206,21 @@ pub fn run_on<R: Read, W: Write, H: Host>(
         result }
     ensures streams { EndsWith result (reading_of input.new.reads input.new.came input.new.has_failed) output.new.has_failed }
 {
-    let manner = Manner {
+    let options = RunOptions {
         home,
         refusals: Refusals::GoOn,
     };
-    run_script(alloc, input, output, host, manner, session)
+    run_script(alloc, input, output, host, options, session)
 }
 
 /// Runs the script of an input of which nothing was read, and prints to an output that has not
-/// failed. There is no listener.
+/// failed. There is no observer.
 pub fn run_script<R: Read, W: Write, H: Host>(
     alloc: Global,
     input: &mut InputStream<'_, R>,
     output: &mut OutputStream<'_, W>,
     host: &mut H,
-    manner: Manner<'_>,
+    options: RunOptions<'_>,
     session: &mut Session,
 ) -> Result<Outcome, ShellFault>
     requires unread { IsUnread (reading_of input.old.reads input.old.came input.old.has_failed) }
@@ -228,7 +228,7 @@ pub fn run_script<R: Read, W: Write, H: Host>(
     requires delivered { output.old.is_delivered ≡ true }
     ensures input { input.new.reader.ghost_name ≡ input.old.reader.ghost_name }
     ensures output { output.new.writer.ghost_name ≡ output.old.writer.ghost_name }
-    ensures ran { Ran (manner_of manner.entry) (R.remaining input.old.reader.now) (R.remaining input.new.reader.now)
+    ensures ran { Ran (options_of options.entry) (R.remaining input.old.reader.now) (R.remaining input.new.reader.now)
         (script_state (W.contents output.old.writer.now) (world_of (H.state host.old) session.old))
         (script_state (W.contents output.new.writer.now) (world_of (H.state host.new) session.new))
         result }
@@ -237,28 +237,28 @@ pub fn run_script<R: Read, W: Write, H: Host>(
     let mut nobody = Nobody;
     let runner = ScriptRunner {
         alloc,
-        manner,
-        listener: &mut nobody,
+        options,
+        observer: &mut nobody,
     };
     runner.run(input, output, host, session)
 }
 
-/// What runs a script: memory, how the script is run, and the listener.
+/// What runs a script: memory, how the script is run, and the observer.
 #[derive(Drop)]
-pub struct ScriptRunner<'n, 'l, L: Listener> {
+pub struct ScriptRunner<'n, 'l, L: Observer> {
     pub alloc: Global,
-    pub manner: Manner<'n>,
-    pub listener: &'l mut L,
+    pub options: RunOptions<'n>,
+    pub observer: &'l mut L,
 }
 
-impl<'n, 'l, L: Listener> ScriptRunner<'n, 'l, L> {
+impl<'n, 'l, L: Observer> ScriptRunner<'n, 'l, L> {
     /// Runs the script of an input of which nothing was read, and prints to an output that has not
     /// failed.
     ///
     /// `Read` comes if a read failed or a limit was reached, and `Write` if a write or a flush
     /// failed. No read is made while something printed is not delivered, nor after a call that
     /// failed, an accepted `quit`, or a refused line that ends the script. All this is the same
-    /// with every listener, which is called before each read, after each line that has run or was
+    /// with every observer, which is called before each read, after each line that has run or was
     /// skipped, and at the script's end.
     pub fn run<R: Read, W: Write, H: Host>(
         self,
@@ -272,7 +272,7 @@ impl<'n, 'l, L: Listener> ScriptRunner<'n, 'l, L> {
         requires delivered { output.old.is_delivered ≡ true }
         ensures input { input.new.reader.ghost_name ≡ input.old.reader.ghost_name }
         ensures output { output.new.writer.ghost_name ≡ output.old.writer.ghost_name }
-        ensures ran { Ran (manner_of self.entry.manner) (R.remaining input.old.reader.now) (R.remaining input.new.reader.now)
+        ensures ran { Ran (options_of self.entry.options) (R.remaining input.old.reader.now) (R.remaining input.new.reader.now)
             (script_state (W.contents output.old.writer.now) (world_of (H.state host.old) session.old))
             (script_state (W.contents output.new.writer.now) (world_of (H.state host.new) session.new))
             result }
@@ -280,9 +280,9 @@ impl<'n, 'l, L: Listener> ScriptRunner<'n, 'l, L> {
     {
         let runner = LineRunner {
             alloc: self.alloc,
-            manner: self.manner,
+            options: self.options,
         };
-        let mut state = RunState::new(self.listener);
+        let mut state = RunState::new(self.observer);
         runner.run_all(input, output, host, session, &mut state)
     }
 
@@ -299,7 +299,7 @@ impl<'n, 'l, L: Listener> ScriptRunner<'n, 'l, L> {
     ) -> Result<Outcome, ShellFault>
         requires unfailed { output.old.has_failed ≡ false }
         ensures output { output.new.writer.ghost_name ≡ output.old.writer.ghost_name }
-        ensures ran { Ran (manner_of self.entry.manner) (Some text.now) (Some [])
+        ensures ran { Ran (options_of self.entry.options) (Some text.now) (Some [])
             (script_state (W.contents output.old.writer.now) (world_of (H.state host.old) session.old))
             (script_state (W.contents output.new.writer.now) (world_of (H.state host.new) session.new))
             result }
@@ -309,11 +309,11 @@ impl<'n, 'l, L: Listener> ScriptRunner<'n, 'l, L> {
     {
         let ScriptRunner {
             alloc,
-            manner,
-            listener,
+            options,
+            observer,
         } = self;
-        let runner = LineRunner { alloc, manner };
-        let mut state = RunState::new(listener);
+        let runner = LineRunner { alloc, options };
+        let mut state = RunState::new(observer);
         runner.run_lines(output, host, session, &mut state, text)
     }
 }
@@ -334,7 +334,7 @@ fn deliver<W: Write>(output: &mut OutputStream<'_, W>) -> Result<(), WriteFault>
 
 impl<'n> LineRunner<'n> {
     /// Runs the script of an input of which nothing was read.
-    fn run_all<R: Read, W: Write, H: Host, L: Listener>(
+    fn run_all<R: Read, W: Write, H: Host, L: Observer>(
         self,
         input: &mut InputStream<'_, R>,
         output: &mut OutputStream<'_, W>,
@@ -347,10 +347,10 @@ impl<'n> LineRunner<'n> {
         requires delivered { output.old.is_delivered ≡ true }
         requires line { Holds state.old.line [] }
         requires tally { state.old.tally ≡ record { outcome = record { accepted = 0; refused = 0 }; closed = false } }
-        ensures lent { state.new.listener.ghost_name ≡ state.old.listener.ghost_name }
+        ensures lent { state.new.observer.ghost_name ≡ state.old.observer.ghost_name }
         ensures input { input.new.reader.ghost_name ≡ input.old.reader.ghost_name }
         ensures output { output.new.writer.ghost_name ≡ output.old.writer.ghost_name }
-        ensures ran { Ran (manner_of self.entry.manner) (R.remaining input.old.reader.now) (R.remaining input.new.reader.now)
+        ensures ran { Ran (options_of self.entry.options) (R.remaining input.old.reader.now) (R.remaining input.new.reader.now)
             (script_state (W.contents output.old.writer.now) (world_of (H.state host.old) session.old))
             (script_state (W.contents output.new.writer.now) (world_of (H.state host.new) session.new))
             result }
@@ -362,7 +362,7 @@ impl<'n> LineRunner<'n> {
             let Ok(()) = deliver(output) else {
                 return Err(ShellFault::Write);
             };
-            state.listener.wait(session.image());
+            state.observer.wait(session.image());
             let count = match input.read_after(output, &mut buffer) {
                 Ok(0) => return self.run_last(output, host, session, state),
                 Ok(count) => count,
@@ -384,7 +384,7 @@ impl<'n> LineRunner<'n> {
     }
 
     /// Runs this text as a script, up to the most bytes that a script has.
-    fn run_lines<W: Write, H: Host, L: Listener>(
+    fn run_lines<W: Write, H: Host, L: Observer>(
         self,
         output: &mut OutputStream<'_, W>,
         host: &mut H,
@@ -395,9 +395,9 @@ impl<'n> LineRunner<'n> {
         requires unfailed { output.old.has_failed ≡ false }
         requires line { Holds state.old.line [] }
         requires tally { state.old.tally ≡ record { outcome = record { accepted = 0; refused = 0 }; closed = false } }
-        ensures lent { state.new.listener.ghost_name ≡ state.old.listener.ghost_name }
+        ensures lent { state.new.observer.ghost_name ≡ state.old.observer.ghost_name }
         ensures output { output.new.writer.ghost_name ≡ output.old.writer.ghost_name }
-        ensures ran { Ran (manner_of self.entry.manner) (Some text.now) (Some [])
+        ensures ran { Ran (options_of self.entry.options) (Some text.now) (Some [])
             (script_state (W.contents output.old.writer.now) (world_of (H.state host.old) session.old))
             (script_state (W.contents output.new.writer.now) (world_of (H.state host.new) session.new))
             result }
@@ -420,7 +420,7 @@ impl<'n> LineRunner<'n> {
     }
 
     /// Runs the line that ends with the script, if bytes of it were read.
-    fn run_last<W: Write, H: Host, L: Listener>(
+    fn run_last<W: Write, H: Host, L: Observer>(
         self,
         output: &mut OutputStream<'_, W>,
         host: &mut H,
@@ -428,18 +428,18 @@ impl<'n> LineRunner<'n> {
         state: &mut RunState<'_, L>,
     ) -> Result<Outcome, ShellFault>
         requires { state.old.tally.outcome.accepted + state.old.tally.outcome.refused ≤ 2 ^ 32 }
-        ensures lent { state.new.listener.ghost_name ≡ state.old.listener.ghost_name }
+        ensures lent { state.new.observer.ghost_name ≡ state.old.observer.ghost_name }
         ensures same { output.new.writer.ghost_name ≡ output.old.writer.ghost_name }
         ensures failed { FailsWith result output.old.has_failed output.new.has_failed }
         ensures ended { (first : ScriptState) (script : List ℕ)
-            → ScriptHasCome (manner_of self.entry.manner) first
+            → ScriptHasCome (options_of self.entry.options) first
             (script_state (W.contents output.old.writer.now) (world_of (H.state host.old) session.old))
             state.old.tally state.old.line script
-            → EndsRun (manner_of self.entry.manner) first
+            → EndsRun (options_of self.entry.options) first
             (script_state (W.contents output.new.writer.now) (world_of (H.state host.new) session.new))
             script result }
     {
-        state.listener.reach_end();
+        state.observer.reach_end();
         if state.line.is_empty() {
             return Ok(state.tally.outcome);
         }
@@ -452,7 +452,7 @@ impl<'n> LineRunner<'n> {
 
     /// Runs the lines that end in the next piece of the script, up to the run's end, and holds what
     /// comes after the last one.
-    fn run_piece<W: Write, H: Host, L: Listener>(
+    fn run_piece<W: Write, H: Host, L: Observer>(
         self,
         output: &mut OutputStream<'_, W>,
         host: &mut H,
@@ -461,29 +461,29 @@ impl<'n> LineRunner<'n> {
         piece: &[u8],
     ) -> Result<(), WriteFault>
         requires { state.old.tally.outcome.accepted + state.old.tally.outcome.refused + length piece.now ≤ 2 ^ 32 }
-        ensures lent { state.new.listener.ghost_name ≡ state.old.listener.ghost_name }
+        ensures lent { state.new.observer.ghost_name ≡ state.old.observer.ghost_name }
         ensures same { output.new.writer.ghost_name ≡ output.old.writer.ghost_name }
         ensures failed { FailsWith result output.old.has_failed output.new.has_failed }
         ensures few { state.new.tally.outcome.accepted + state.new.tally.outcome.refused ≤ state.old.tally.outcome.accepted + state.old.tally.outcome.refused + length piece.now }
-        ensures heard { output.new.is_delivered ≡ false → output.old.is_delivered ≡ true → 0 < state.new.tally.outcome.accepted + state.new.tally.outcome.refused }
+        ensures observed { output.new.is_delivered ≡ false → output.old.is_delivered ≡ true → 0 < state.new.tally.outcome.accepted + state.new.tally.outcome.refused }
         ensures came { (first : ScriptState) (before : List ℕ)
-            → ScriptHasCome (manner_of self.entry.manner) first
+            → ScriptHasCome (options_of self.entry.options) first
             (script_state (W.contents output.old.writer.now) (world_of (H.state host.old) session.old))
             state.old.tally state.old.line before
-            → OnOk result (ComesTo (manner_of self.entry.manner) first
+            → OnOk result (ComesTo (options_of self.entry.options) first
             (script_state (W.contents output.new.writer.now) (world_of (H.state host.new) session.new))
             state.new.tally state.new.line (before ++ piece.now)) }
         ensures stopped { (first : ScriptState) (before : List ℕ)
-            → ScriptHasCome (manner_of self.entry.manner) first
+            → ScriptHasCome (options_of self.entry.options) first
             (script_state (W.contents output.old.writer.now) (world_of (H.state host.old) session.old))
             state.old.tally state.old.line before
-            → OnErr result ((more : List ℕ) → StoppedAt (manner_of self.entry.manner) first
+            → OnErr result ((more : List ℕ) → StoppedAt (options_of self.entry.options) first
             (script_state (W.contents output.new.writer.now) (world_of (H.state host.new) session.new))
             (lines_of ((before ++ piece.now) ++ more))) }
     {
         for part in RawLines(piece) {
             state.line.push(before_end(part));
-            state.listener.take(before_end(part));
+            state.observer.take(before_end(part));
             if !is_ended(part) {
                 continue;
             }
@@ -498,7 +498,7 @@ impl<'n> LineRunner<'n> {
     }
 
     /// Runs a line that was read to its end, and writes its response.
-    fn run_line<W: Write, H: Host, L: Listener>(
+    fn run_line<W: Write, H: Host, L: Observer>(
         self,
         output: &mut OutputStream<'_, W>,
         host: &mut H,
@@ -506,27 +506,27 @@ impl<'n> LineRunner<'n> {
         state: &mut RunState<'_, L>,
     ) -> Result<(), WriteFault>
         requires { state.old.tally.outcome.accepted + state.old.tally.outcome.refused < 2 ^ 63 }
-        ensures lent { state.new.listener.ghost_name ≡ state.old.listener.ghost_name }
+        ensures lent { state.new.observer.ghost_name ≡ state.old.observer.ghost_name }
         ensures same { output.new.writer.ghost_name ≡ output.old.writer.ghost_name }
         ensures failed { FailsWith result output.old.has_failed output.new.has_failed }
         ensures few { state.new.tally.outcome.accepted + state.new.tally.outcome.refused ≤ state.old.tally.outcome.accepted + state.old.tally.outcome.refused + 1 }
         ensures more { state.old.tally.outcome.accepted + state.old.tally.outcome.refused ≤ state.new.tally.outcome.accepted + state.new.tally.outcome.refused }
-        ensures heard { output.new.is_delivered ≡ false → output.old.is_delivered ≡ true → 0 < state.new.tally.outcome.accepted + state.new.tally.outcome.refused }
-        ensures ran { (raw : List ℕ) → Says state.old.line raw → state.old.tally.closed ≡ false → OnOk result (RunsLine (manner_of self.entry.manner) raw
+        ensures observed { output.new.is_delivered ≡ false → output.old.is_delivered ≡ true → 0 < state.new.tally.outcome.accepted + state.new.tally.outcome.refused }
+        ensures ran { (raw : List ℕ) → Says state.old.line raw → state.old.tally.closed ≡ false → OnOk result (RunsLine (options_of self.entry.options) raw
             (script_state (W.contents output.old.writer.now) (world_of (H.state host.old) session.old))
             (script_state (W.contents output.new.writer.now) (world_of (H.state host.new) session.new))
             state.old.tally state.new.tally) }
-        ensures stopped { (raw : List ℕ) → Says state.old.line raw → state.old.tally.closed ≡ false → OnErr result (StopsInLine (manner_of self.entry.manner) raw
+        ensures stopped { (raw : List ℕ) → Says state.old.line raw → state.old.tally.closed ≡ false → OnErr result (StopsInLine (options_of self.entry.options) raw
             (script_state (W.contents output.old.writer.now) (world_of (H.state host.old) session.old))
             (script_state (W.contents output.new.writer.now) (world_of (H.state host.new) session.new))
             state.old.tally) }
     {
-        let Some(response) = answer_line(self.alloc, host, self.manner.home, session, &state.line)
+        let Some(response) = answer_line(self.alloc, host, self.options.home, session, &state.line)
         else {
-            state.listener.skip();
+            state.observer.skip();
             return Ok(());
         };
-        state.tally.count(&response, self.manner.refusals);
-        state.write_answer(self.manner.home, &response, output, session)
+        state.tally.count(&response, self.options.refusals);
+        state.write_answer(self.options.home, &response, output, session)
     }
 }

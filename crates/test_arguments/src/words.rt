@@ -227,24 +227,29 @@ fn takes_arguments_for_jobs(rt: HostRuntime) -> Result<(), Fail> {
 }
 
 /// Whether the text for these arguments has this line, and whether the arguments asked for it.
-fn is_told(alloc: Global, words: &[&str], line: &str, was_asked_for: bool) -> Result<bool, Fail> {
+fn is_shown(
+    alloc: Global,
+    words: &[&str],
+    line: &str,
+    is_help_or_version: bool,
+) -> Result<bool, Fail> {
     let Err(fault) = job(alloc, words) else {
         return Ok(false);
     };
     let text = format!(in alloc; "{fault}")?;
     let has_line = text.as_str().lines().any(|told| told == line);
-    Ok(has_line && fault.was_asked_for() == was_asked_for)
+    Ok(has_line && fault.is_help_or_version() == is_help_or_version)
 }
 
 /// Returns the first row whose text does not have its line.
-fn first_untold<'a>(
+fn first_unshown<'a>(
     alloc: Global,
     rows: &'a str,
-    was_asked_for: bool,
+    is_help_or_version: bool,
 ) -> Result<Option<&'a str>, Fail> {
     for row in rows.lines() {
         let (words, line) = parted(alloc, row)?;
-        if !is_told(alloc, words.as_slice(), line, was_asked_for)? {
+        if !is_shown(alloc, words.as_slice(), line, is_help_or_version)? {
             return Ok(Some(row));
         }
     }
@@ -252,21 +257,21 @@ fn first_untold<'a>(
 }
 
 #[test]
-fn tells_what_is_wrong(rt: HostRuntime) -> Result<(), Fail> {
-    assert_eq!(rt; first_untold(rt.alloc(), REFUSED, false)?, None);
+fn says_what_is_wrong(rt: HostRuntime) -> Result<(), Fail> {
+    assert_eq!(rt; first_unshown(rt.alloc(), REFUSED, false)?, None);
     Ok(())
 }
 
 #[test]
 fn shows_help_and_version(rt: HostRuntime) -> Result<(), Fail> {
-    assert_eq!(rt; first_untold(rt.alloc(), SHOWN, true)?, None);
+    assert_eq!(rt; first_unshown(rt.alloc(), SHOWN, true)?, None);
     Ok(())
 }
 
 #[test]
 fn wants_a_subcommand(rt: HostRuntime) -> Result<(), Fail> {
     for words in [&[][..], &["d64sh"]] {
-        assert!(rt; is_told(rt.alloc(), words, "Usage: d64sh <COMMAND>", false)?);
+        assert!(rt; is_shown(rt.alloc(), words, "Usage: d64sh <COMMAND>", false)?);
     }
     Ok(())
 }

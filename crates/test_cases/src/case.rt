@@ -22,7 +22,7 @@ pub enum WhenFull {
 
 /// How a script is run, and how the run must end.
 #[derive(Drop)]
-pub struct Manner {
+pub struct RunOptions {
     /// The arguments after the program's name; None if the script is run without the program.
     pub words: Option<Vec<String>>,
     /// The most bytes that a read gives; None means 1, 7 and 4,096 in turn.
@@ -32,7 +32,7 @@ pub struct Manner {
     pub when_full: WhenFull,
     pub fails_at_flush: bool,
     /// How many bytes the standard error takes.
-    pub faults_room: Option<usize>,
+    pub faults_limit: Option<usize>,
     /// Whether the script must end with a read fault although its reader does not fail.
     pub is_past_limits: bool,
     /// The exit status of the program.
@@ -41,17 +41,17 @@ pub struct Manner {
     pub faults: String,
 }
 
-impl Manner {
+impl RunOptions {
     /// Returns a run to the end, on streams that do not fail.
-    pub fn plain(alloc: Global) -> Manner {
-        Manner {
+    pub fn plain(alloc: Global) -> RunOptions {
+        RunOptions {
             words: None,
             at_most: None,
             reader_fails: Place::Nowhere,
             writer_stops: Place::Nowhere,
             when_full: WhenFull::Fails,
             fails_at_flush: false,
-            faults_room: None,
+            faults_limit: None,
             is_past_limits: false,
             status: 0,
             faults: String::new(alloc),
@@ -62,7 +62,7 @@ impl Manner {
 /// A run of a script.
 #[derive(Drop)]
 pub struct Run {
-    pub manner: Manner,
+    pub options: RunOptions,
     pub script: Script,
 }
 

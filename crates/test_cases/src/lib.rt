@@ -7,12 +7,12 @@
 mod case;
 mod deeds;
 mod fault;
-mod manners;
 mod notation;
 mod reading;
+mod run_options;
 mod script;
 
-pub use case::{Deed, Manner, Place, Run, Step, WhenFull};
+pub use case::{Deed, Place, Run, RunOptions, Step, WhenFull};
 pub use fault::CaseFault;
 pub use reading::{Unread, steps_of};
 pub use script::{Mark, Script};

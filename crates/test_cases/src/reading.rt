@@ -1,10 +1,10 @@
 //! Reading a case.
 
-use crate::case::{Deed, Manner, Run, Step};
+use crate::case::{Deed, Run, RunOptions, Step};
 use crate::deeds::deed_of;
 use crate::fault::CaseFault;
-use crate::manners::take_manner;
 use crate::notation::{bytes_of, number_of};
+use crate::run_options::take_option;
 use crate::script::{Exchange, Said, Script};
 use std::alloc::AllocError;
 use std::mem;
@@ -48,7 +48,7 @@ struct Reading<'r, R> {
     line: usize,
     steps: Vec<Step>,
     /// How the next script is run.
-    manner: Manner,
+    options: RunOptions,
     /// The lines of the script that is being read, and where it begins.
     exchanges: Vec<Exchange>,
     begins: usize,
@@ -60,7 +60,7 @@ impl<'r, R: Files + AllocGlobal> Reading<'r, R> {
             rt,
             line: 0,
             steps: Vec::new(rt.alloc()),
-            manner: Manner::plain(rt.alloc()),
+            options: RunOptions::plain(rt.alloc()),
             exchanges: Vec::new(rt.alloc()),
             begins: 0,
         }
@@ -112,7 +112,7 @@ impl<'r, R: Files + AllocGlobal> Reading<'r, R> {
             return Ok(());
         }
         let (word, rest) = line.split_once(' ').unwrap_or((line, ""));
-        if take_manner(self.rt.alloc(), &mut self.manner, word, rest)? {
+        if take_option(self.rt.alloc(), &mut self.options, word, rest)? {
             return Ok(());
         }
         let deed = deed_of(self.rt, word, rest)?;
@@ -133,11 +133,11 @@ impl<'r, R: Files + AllocGlobal> Reading<'r, R> {
             script.add(exchange)?;
         }
         self.exchanges.clear();
-        let manner = mem::replace(&mut self.manner, Manner::plain(self.rt.alloc()));
+        let options = mem::replace(&mut self.options, RunOptions::plain(self.rt.alloc()));
         self.steps.push(Step {
             line: self.begins,
             deed: Deed::Run {
-                run: Run { manner, script },
+                run: Run { options, script },
             },
         })?;
         Ok(())

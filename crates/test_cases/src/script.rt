@@ -77,9 +77,9 @@ impl Script {
         ended.last().copied().unwrap_or(Mark::START)
     }
 
-    /// Returns the line to whose output the byte after the first `room` bytes belongs.
-    pub fn answered_at(&self, room: usize) -> Mark {
-        let mut answered = self.marks.iter().filter(|mark| mark.answers > room);
+    /// Returns the line to whose output the byte after the first `limit` bytes belongs.
+    pub fn printed_at(&self, limit: usize) -> Mark {
+        let mut answered = self.marks.iter().filter(|mark| mark.answers > limit);
         answered.next().copied().unwrap_or(Mark::START)
     }
 

@@ -10,7 +10,7 @@ use d64_files::{Kind, Name};
 use d64_image::{Image, Patch};
 use host_storage::{Host, MemoryHost};
 use program_arguments::{Format, Leftovers};
-use program_batch::{AnswerRoom, Clerk, Verdict};
+use program_batch::{FileTask, ReportBuffer, Verdict};
 use std::test::Fail;
 
 /// The name of the image's file.
@@ -81,13 +81,13 @@ fn has_sevens(host: &MemoryHost, name: &str, len: usize) -> bool {
 fn a_disk_is_unpacked_once(rt: HostRuntime) -> Result<(), Fail> {
     let image = disk(&rt)?;
     let mut host = MemoryHost::new(rt.alloc());
-    let mut room = AnswerRoom::new(rt.alloc());
+    let mut buffer = ReportBuffer::new(rt.alloc());
     let mut unpacker = unpacker(&rt, false)?;
-    let verdict = unpacker.answer(NAME, Some(image.bytes()), &mut host, &mut room)?;
+    let verdict = unpacker.answer(NAME, Some(image.bytes()), &mut host, &mut buffer)?;
     assert!(rt; verdict == Verdict::Clean);
-    assert!(rt; room.complaint.is_empty());
+    assert!(rt; buffer.complaint.is_empty());
     assert_eq!(rt;
-        room.printed.as_slice(),
+        buffer.printed.as_slice(),
         b"../disks//a/side1.d64 \"holiday\" 84
     1 \"one\"              prg   whole -> out/disks/a/side1.d64.files/one.prg
     2 \"a/b\"              prg   whole -> out/disks/a/side1.d64.files/a_b.prg
@@ -101,13 +101,13 @@ fn a_disk_is_unpacked_once(rt: HostRuntime) -> Result<(), Fail> {
             .is_some()
     );
     assert!(rt; !host.is_there("out/disks/a/side1.d64.files.partial"));
-    let verdict = unpacker.answer(NAME, Some(image.bytes()), &mut host, &mut room)?;
+    let verdict = unpacker.answer(NAME, Some(image.bytes()), &mut host, &mut buffer)?;
     assert!(rt; verdict == Verdict::Failed);
     assert_eq!(rt;
-        room.complaint.as_slice(),
+        buffer.complaint.as_slice(),
         b"d64sh: out/disks/a/side1.d64.files: is there already\n".as_slice()
     );
-    assert!(rt; room.printed.is_empty());
+    assert!(rt; buffer.printed.is_empty());
     Ok(())
 }
 
@@ -115,13 +115,13 @@ fn a_disk_is_unpacked_once(rt: HostRuntime) -> Result<(), Fail> {
 fn a_disk_that_is_there_is_passed_over(rt: HostRuntime) -> Result<(), Fail> {
     let image = disk(&rt)?;
     let mut host = MemoryHost::new(rt.alloc());
-    let mut room = AnswerRoom::new(rt.alloc());
+    let mut buffer = ReportBuffer::new(rt.alloc());
     let mut unpacker = unpacker(&rt, true)?;
-    unpacker.answer(NAME, Some(image.bytes()), &mut host, &mut room)?;
-    let verdict = unpacker.answer(NAME, Some(image.bytes()), &mut host, &mut room)?;
+    unpacker.answer(NAME, Some(image.bytes()), &mut host, &mut buffer)?;
+    let verdict = unpacker.answer(NAME, Some(image.bytes()), &mut host, &mut buffer)?;
     assert!(rt; verdict == Verdict::Clean);
     assert_eq!(rt;
-        room.complaint.as_slice(),
+        buffer.complaint.as_slice(),
         b"d64sh: out/disks/a/side1.d64.files: skipped\n".as_slice()
     );
     Ok(())
@@ -131,23 +131,23 @@ fn a_disk_that_is_there_is_passed_over(rt: HostRuntime) -> Result<(), Fail> {
 fn a_folder_without_a_list_is_not_passed_over(rt: HostRuntime) -> Result<(), Fail> {
     let image = disk(&rt)?;
     let mut host = MemoryHost::new(rt.alloc());
-    let mut room = AnswerRoom::new(rt.alloc());
+    let mut buffer = ReportBuffer::new(rt.alloc());
     let mut unpacker = unpacker(&rt, true)?;
     assert!(rt; host.make_folder("out/disks/a/side1.d64.files").is_ok());
-    let verdict = unpacker.answer(NAME, Some(image.bytes()), &mut host, &mut room)?;
+    let verdict = unpacker.answer(NAME, Some(image.bytes()), &mut host, &mut buffer)?;
     assert!(rt; verdict == Verdict::Failed);
     assert_eq!(rt;
-        room.complaint.as_slice(),
+        buffer.complaint.as_slice(),
         b"d64sh: out/disks/a/side1.d64.files: is there already\n".as_slice()
     );
     Ok(())
 }
 
 #[test]
-fn each_call_that_fails_is_told(rt: HostRuntime) -> Result<(), Fail> {
+fn each_call_that_fails_is_reported(rt: HostRuntime) -> Result<(), Fail> {
     let image = disk(&rt)?;
     let mut unpacker = unpacker(&rt, false)?;
-    let mut room = AnswerRoom::new(rt.alloc());
+    let mut buffer = ReportBuffer::new(rt.alloc());
     for (call, path) in [
         (1, "out/disks"),
         (2, "out/disks/a"),
@@ -160,10 +160,10 @@ fn each_call_that_fails_is_told(rt: HostRuntime) -> Result<(), Fail> {
         let mut host = MemoryHost::new(rt.alloc());
         assert!(rt; host.make_folder("out").is_ok());
         host.fail_at(call);
-        let verdict = unpacker.answer(NAME, Some(image.bytes()), &mut host, &mut room)?;
+        let verdict = unpacker.answer(NAME, Some(image.bytes()), &mut host, &mut buffer)?;
         assert!(rt; verdict == Verdict::Failed);
         let told = format!(in rt.alloc(); "d64sh: {path}: cannot be written\n")?;
-        assert_eq!(rt; room.complaint.as_slice(), told.as_bytes());
+        assert_eq!(rt; buffer.complaint.as_slice(), told.as_bytes());
         assert!(rt; !host.is_there("out/disks/a/side1.d64.files"));
         assert!(rt; call < 4 || host.is_there("out/disks/a/side1.d64.files.partial"));
     }

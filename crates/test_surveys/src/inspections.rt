@@ -28,7 +28,7 @@ fn counts(all: &Inspection) -> [usize; 5] {
 }
 
 #[test]
-fn all_is_told_of_a_dump(rt: HostRuntime) -> Result<(), Fail> {
+fn all_is_found_on_a_dump(rt: HostRuntime) -> Result<(), Fail> {
     let fault = Fault::MarkedFree(block(17, 3)?);
     let dump = dump_of(&rt, &FILES, &[(17, 4, 5)])?;
     let mut faults = Vec::new(rt.alloc());

@@ -50,7 +50,7 @@ const LENGTHS: [(usize, &[u8]); 9] = [
 ];
 
 #[test]
-fn lengths_are_told_with_a_guess(rt: HostRuntime) -> Result<(), Fail> {
+fn lengths_are_printed_with_a_guess(rt: HostRuntime) -> Result<(), Fail> {
     for (length, line) in &LENGTHS {
         let bytes = vec![in rt.alloc(); 0; *length]?;
         let mut out = Vec::new(rt.alloc());
@@ -61,7 +61,7 @@ fn lengths_are_told_with_a_guess(rt: HostRuntime) -> Result<(), Fail> {
 }
 
 #[test]
-fn first_bytes_are_told(rt: HostRuntime) -> Result<(), Fail> {
+fn first_bytes_are_recognised(rt: HostRuntime) -> Result<(), Fail> {
     let mut out = Vec::new(rt.alloc());
     unread_line(&mut out, b"a\nb")?;
     wrong_length_line(&mut out, b"x", b"GCR-1541\0")?;

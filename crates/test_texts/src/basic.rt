@@ -92,7 +92,7 @@ fn crunches_as_the_machine_does(rt: HostRuntime) -> Result<(), Fail> {
 }
 
 #[test]
-fn tells_the_first_fault(rt: HostRuntime) {
+fn reports_the_first_fault(rt: HostRuntime) {
     let rows = [
         ("a", BasicFault::NoNumber { line: 1 }),
         ("\n; x\n a\nb", BasicFault::NoNumber { line: 3 }),
@@ -146,7 +146,7 @@ fn takes_lines_up_to_the_limits(rt: HostRuntime) -> Result<(), Fail> {
 }
 
 #[test]
-fn tells_the_least_fault_of_a_long_line(rt: HostRuntime) -> Result<(), Fail> {
+fn reports_the_least_fault_of_a_long_line(rt: HostRuntime) -> Result<(), Fail> {
     let mut long = Vec::from_slice(rt.alloc(), b"10 ")?;
     for _ in 0..300 {
         long.push(b'a')?;

@@ -70,7 +70,7 @@ fn reads_names_in_either_case(rt: HostRuntime) -> Result<(), Fail> {
 }
 
 #[test]
-fn tells_the_leftmost_fault(rt: HostRuntime) {
+fn reports_the_leftmost_fault(rt: HostRuntime) {
     let faults = [
         ("{foo}", TextFault::UnknownName { place: 0 }),
         ("a{foo}b", TextFault::UnknownName { place: 1 }),
@@ -107,7 +107,7 @@ fn tells_the_leftmost_fault(rt: HostRuntime) {
 }
 
 #[test]
-fn tells_what_to_do(rt: HostRuntime) -> Result<(), Fail> {
+fn says_what_to_do(rt: HostRuntime) -> Result<(), Fail> {
     let messages = [
         (
             TextFault::UnknownName { place: 3 },

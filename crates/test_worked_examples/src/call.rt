@@ -1,7 +1,7 @@
 //! Calls of the shell: what they are given, and the expected results.
 
 use d64_shell::{Outcome, ShellFault};
-use test_cases::{Manner, Mark, Place, Run, Script, WhenFull};
+use test_cases::{Mark, Place, Run, RunOptions, Script, WhenFull};
 
 /// How a call ended.
 #[derive(Clone, Copy, Debug, PartialEq, Eq)]
@@ -34,10 +34,10 @@ pub struct Call<'a> {
     pub at_most: usize,
     pub reader_fails: bool,
     /// The number of bytes that the writer takes, and what it does then.
-    pub room: usize,
+    pub limit: usize,
     pub when_full: WhenFull,
     pub fails_at_flush: bool,
-    pub faults_room: usize,
+    pub faults_limit: usize,
     /// The expected output.
     pub answers: &'a [u8],
     pub faults: &'a [u8],
@@ -48,11 +48,11 @@ impl<'a> Call<'a> {
     /// Returns the first call of a run. A stream that fails anywhere fails after `place` bytes.
     pub fn first(run: &'a Run, at_most: usize, place: usize) -> Call<'a> {
         let call = Call::whole(run, at_most);
-        if let Some(came) = bytes_before(run.manner.reader_fails, place) {
+        if let Some(came) = bytes_before(run.options.reader_fails, place) {
             return call.with_failing_reader(&run.script, came);
         }
-        match bytes_before(run.manner.writer_stops, place) {
-            Some(room) => call.with_full_writer(room),
+        match bytes_before(run.options.writer_stops, place) {
+            Some(limit) => call.with_full_writer(limit),
             None => call,
         }
     }
@@ -60,7 +60,7 @@ impl<'a> Call<'a> {
     /// Returns the call on what a first call left of the script, if it left some.
     pub fn second(run: &'a Run, at_most: usize, place: usize) -> Option<Call<'a>> {
         let mark = stopped_at(run, place)?;
-        if run.manner.words.is_some() || run.script.is_closed(mark) {
+        if run.options.words.is_some() || run.script.is_closed(mark) {
             return None;
         }
         let call = Call::whole(run, at_most);
@@ -75,20 +75,20 @@ impl<'a> Call<'a> {
 
     /// Returns the call on a whole script, on streams that do not fail.
     fn whole(run: &'a Run, at_most: usize) -> Call<'a> {
-        let manner = &run.manner;
+        let options = &run.options;
         let answers = run.script.answers.as_bytes();
         Call {
-            words: manner.words.as_ref().map(|words| words.as_slice()),
+            words: options.words.as_ref().map(|words| words.as_slice()),
             given: run.script.bytes.as_slice(),
-            at_most: manner.at_most.unwrap_or(at_most),
+            at_most: options.at_most.unwrap_or(at_most),
             reader_fails: false,
-            room: usize::MAX,
-            when_full: manner.when_full,
-            fails_at_flush: manner.fails_at_flush,
-            faults_room: manner.faults_room.unwrap_or(usize::MAX),
+            limit: usize::MAX,
+            when_full: options.when_full,
+            fails_at_flush: options.fails_at_flush,
+            faults_limit: options.faults_limit.unwrap_or(usize::MAX),
             answers,
-            faults: manner.faults.as_bytes(),
-            ending: ending_of(manner, answers),
+            faults: options.faults.as_bytes(),
+            ending: ending_of(options, answers),
         }
     }
 
@@ -111,16 +111,16 @@ impl<'a> Call<'a> {
         }
     }
 
-    /// Returns this call with a writer that takes `room` bytes: only that part of a longer output
+    /// Returns this call with a writer that takes `limit` bytes: only that part of a longer output
     /// is written.
-    fn with_full_writer(self, room: usize) -> Call<'a> {
+    fn with_full_writer(self, limit: usize) -> Call<'a> {
         let ending = match self.ending {
-            Ending::Counted(_) if room < self.answers.len() => Ending::WriteFault,
+            Ending::Counted(_) if limit < self.answers.len() => Ending::WriteFault,
             other => other,
         };
         Call {
-            room,
-            answers: up_to(self.answers, room),
+            limit,
+            answers: up_to(self.answers, limit),
             ending,
             ..self
         }
@@ -138,18 +138,18 @@ fn bytes_before(stops: Place, place: usize) -> Option<usize> {
 
 /// Returns the last line that the first call of a run has run, or was running, if a stream stops.
 fn stopped_at(run: &Run, place: usize) -> Option<Mark> {
-    if let Some(came) = bytes_before(run.manner.reader_fails, place) {
+    if let Some(came) = bytes_before(run.options.reader_fails, place) {
         return Some(run.script.ended_by(came));
     }
-    let room = bytes_before(run.manner.writer_stops, place)?;
-    Some(run.script.answered_at(room))
+    let limit = bytes_before(run.options.writer_stops, place)?;
+    Some(run.script.printed_at(limit))
 }
 
 /// Returns the number of places that a run is tried with, one after another.
 pub fn place_count(run: &Run) -> usize {
-    if run.manner.reader_fails == Place::Anywhere {
+    if run.options.reader_fails == Place::Anywhere {
         run.script.bytes.len().saturating_add(1)
-    } else if run.manner.writer_stops == Place::Anywhere {
+    } else if run.options.writer_stops == Place::Anywhere {
         run.script.answers.len()
     } else {
         1
@@ -165,10 +165,10 @@ fn from(bytes: &[u8], count: usize) -> &[u8] {
 }
 
 /// Returns how a script ends whose reader and writer do not fail.
-fn ending_of(manner: &Manner, answers: &[u8]) -> Ending {
-    if manner.words.is_some() {
-        Ending::Status(manner.status)
-    } else if manner.is_past_limits {
+fn ending_of(options: &RunOptions, answers: &[u8]) -> Ending {
+    if options.words.is_some() {
+        Ending::Status(options.status)
+    } else if options.is_past_limits {
         Ending::ReadFault
     } else {
         Ending::Counted(counts_of(answers))

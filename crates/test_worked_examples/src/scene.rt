@@ -2,7 +2,7 @@
 
 use crate::call::{Call, Ending, place_count};
 use crate::differences::Differences;
-use crate::streams::{Asked, Bounded, Pieces};
+use crate::streams::{Bounded, Pieces, Reads};
 use d64_image::{BlockNo, Image};
 use d64_shell::{FolderHost, Host, MemoryHost, Session, program, run};
 use std::alloc::{AllocError, Global};
@@ -22,7 +22,7 @@ struct Came {
     output: Bounded,
     faults: Bounded,
     ending: Ending,
-    asked: Asked,
+    requests: Reads,
 }
 
 /// The place of a case: a session, and a host in memory or over the current folder.
@@ -222,8 +222,8 @@ fn came_of<H: Host>(
     session: &mut Session,
 ) -> Result<Came, AllocError> {
     let mut reader = Pieces::of(call.given, call.at_most, call.reader_fails);
-    let mut output = Bounded::with_room(alloc, call.room, call.when_full, call.fails_at_flush);
-    let mut faults = Bounded::with_room(alloc, call.faults_room, WhenFull::TakesNothing, false);
+    let mut output = Bounded::with_limit(alloc, call.limit, call.when_full, call.fails_at_flush);
+    let mut faults = Bounded::with_limit(alloc, call.faults_limit, WhenFull::TakesNothing, false);
     let ending = match call.words {
         Some(words) => {
             let words: Vec<&str> = words.iter().map(|word| word.as_str()).collect(alloc)?;
@@ -236,7 +236,7 @@ fn came_of<H: Host>(
         output,
         faults,
         ending,
-        asked: reader.asked(),
+        requests: reader.requests(),
     })
 }
 
@@ -249,15 +249,15 @@ impl Came {
         differences: &mut Differences,
     ) -> Result<(), CaseFault> {
         differences.look_at_lines(line, "answers", self.output.written(), call.answers)?;
-        let faults = up_to(call.faults, call.faults_room);
+        let faults = up_to(call.faults, call.faults_limit);
         differences.look_at_lines(line, "faults", self.faults.written(), faults)?;
         differences.look_at_values(line, "ending", &self.ending, &call.ending)?;
-        let within = Asked {
-            reads: self.asked.reads.min(READS),
-            most: self.asked.most.min(READ_BYTES),
+        let within = Reads {
+            reads: self.requests.reads.min(READS),
+            most: self.requests.most.min(READ_BYTES),
             after_end: false,
         };
-        Ok(differences.look_at_values(line, "reads", &self.asked, &within)?)
+        Ok(differences.look_at_values(line, "reads", &self.requests, &within)?)
     }
 }
 
@@ -337,7 +337,7 @@ fn run_of(step: &Step) -> Option<&Run> {
 
 /// Whether a case says how many bytes a read gives.
 fn says_reads(steps: &[Step]) -> bool {
-    steps.iter().any(|step| run_of(step).is_some_and(|run| run.manner.at_most.is_some()))
+    steps.iter().any(|step| run_of(step).is_some_and(|run| run.options.at_most.is_some()))
 }
 
 /// Returns how often a case is played, once for each place at which a stream is to fail.

@@ -11,7 +11,7 @@ fn broken() -> io::Error {
 
 /// How a reader was called.
 #[derive(Clone, Copy, Debug, PartialEq, Eq)]
-pub struct Asked {
+pub struct Reads {
     pub reads: u64,
     /// The most bytes that a read asked for.
     pub most: usize,
@@ -26,7 +26,7 @@ pub struct Pieces<'a> {
     at_most: usize,
     fails: bool,
     ended: bool,
-    asked: Asked,
+    requests: Reads,
 }
 
 impl<'a> Pieces<'a> {
@@ -37,7 +37,7 @@ impl<'a> Pieces<'a> {
             at_most,
             fails,
             ended: false,
-            asked: Asked {
+            requests: Reads {
                 reads: 0,
                 most: 0,
                 after_end: false,
@@ -45,24 +45,24 @@ impl<'a> Pieces<'a> {
         }
     }
 
-    pub fn asked(&self) -> Asked {
-        self.asked
+    pub fn requests(&self) -> Reads {
+        self.requests
     }
 }
 
 impl<'a> Read for Pieces<'a> {
     fn read(&mut self, buffer: &mut [u8]) -> io::Result<usize> {
-        self.asked = Asked {
-            reads: self.asked.reads.saturating_add(1),
-            most: self.asked.most.max(buffer.len()),
+        self.requests = Reads {
+            reads: self.requests.reads.saturating_add(1),
+            most: self.requests.most.max(buffer.len()),
             after_end: self.ended,
         };
         self.ended = self.left.is_empty();
         if self.fails && self.ended {
             return Err(broken());
         }
-        let room = buffer.len().min(self.at_most);
-        self.left.read(&mut buffer[..room])
+        let limit = buffer.len().min(self.at_most);
+        self.left.read(&mut buffer[..limit])
     }
 }
 
@@ -70,22 +70,22 @@ impl<'a> Read for Pieces<'a> {
 #[derive(Drop)]
 pub struct Bounded {
     written: Vec<u8>,
-    room: usize,
+    limit: usize,
     when_full: WhenFull,
     fails_at_flush: bool,
 }
 
 impl Bounded {
     /// Returns a writer that takes this many bytes, and then fails or takes nothing.
-    pub fn with_room(
+    pub fn with_limit(
         alloc: Global,
-        room: usize,
+        limit: usize,
         when_full: WhenFull,
         fails_at_flush: bool,
     ) -> Bounded {
         Bounded {
             written: Vec::new(alloc),
-            room,
+            limit,
             when_full,
             fails_at_flush,
         }
@@ -98,12 +98,12 @@ impl Bounded {
 
 impl Write for Bounded {
     fn write(&mut self, buffer: &[u8]) -> io::Result<usize> {
-        if self.room == 0 && self.when_full == WhenFull::Fails {
+        if self.limit == 0 && self.when_full == WhenFull::Fails {
             return Err(broken());
         }
-        let count = buffer.len().min(self.room);
+        let count = buffer.len().min(self.limit);
         self.written.extend_from_slice(&buffer[..count])?;
-        self.room -= count;
+        self.limit -= count;
         Ok(count)
     }
 

@@ -31,10 +31,10 @@ loop-block-preserved c =
     let kept = c.loop-block.blocks.items in
     let block = c.in-Some.block in
     let rest = c.next.new.self in
-    let told : not c.has_bytes-differs.result ≡ differ image other block =
+    let reported : not c.has_bytes-differs.result ≡ differ image other block =
     ap not (c.has_bytes-differs.ensures ∙ ap (λ (bytes : List ℕ). pointwise nat_eq bytes (sector_at other block)) c.sector.ensures.value) in
     record {
-      kept = ap (λ (bs : List ℕ). bs ++ filter (differ image other) rest) (c.in_ok-keep_if.ensures ∙ ap (λ (k : Bool). kept ++ (if k then block ∷ [] else [])) told)
+      kept = ap (λ (bs : List ℕ). bs ++ filter (differ image other) rest) (c.in_ok-keep_if.ensures ∙ ap (λ (k : Bool). kept ++ (if k then block ∷ [] else [])) reported)
           ∙ kept_more (differ image other) kept block rest
           ∙ ap (λ (bs : List ℕ). kept ++ filter (differ image other) bs) (sym c.in-Some.ensures.steps)
           ∙ c.loop-block.invariant.kept;

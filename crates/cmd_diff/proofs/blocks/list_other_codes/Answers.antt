@@ -10,8 +10,8 @@ loop-block-preserved c =
     let kept = c.loop-block.blocks.items in
     let block = c.in-Some.block in
     let rest = c.next.new.self in
-    let told = c.has_other_code-differs.ensures ∙ ap₂ (λ (old new : Option (List ℕ)). has_other_code old new block) c.codes.ensures c.codes-in-loop-block.ensures in
-    ap (λ (bs : List ℕ). bs ++ filter test rest) (c.in_ok-keep_if.ensures ∙ ap (λ (k : Bool). kept ++ (if k then block ∷ [] else [])) told)
+    let reported = c.has_other_code-differs.ensures ∙ ap₂ (λ (old new : Option (List ℕ)). has_other_code old new block) c.codes.ensures c.codes-in-loop-block.ensures in
+    ap (λ (bs : List ℕ). bs ++ filter test rest) (c.in_ok-keep_if.ensures ∙ ap (λ (k : Bool). kept ++ (if k then block ∷ [] else [])) reported)
     ∙ kept_more test kept block rest
     ∙ ap (λ (bs : List ℕ). kept ++ filter test bs) (sym c.in-Some.ensures.steps)
     ∙ c.loop-block.invariant

@@ -12,5 +12,5 @@ returns-in-Json c =
     let slot : c.row.inside.slot ≡ row.slot = search rules in
     let form : printed_change c.args.form (Added row) ≡ line_of (slot_object row.slot (codes "added") None (Some row)) = ap (λ form. printed_change form (Added row)) c.in-Json.is in
     IfOk-weaker c.slot_json.result _ (λ text. text.items ≡ c.args.out.items ++ printed_change c.args.form (Added row))
-    (λ text told. told ∙ ap (λ (n : ℕ). c.args.out.items ++ line_of (slot_object n (codes "added") None (Some row))) slot ∙ ap (λ (told : List ℕ). c.args.out.items ++ told) (sym form))
+    (λ text reported. reported ∙ ap (λ (n : ℕ). c.args.out.items ++ line_of (slot_object n (codes "added") None (Some row))) slot ∙ ap (λ (reported : List ℕ). c.args.out.items ++ reported) (sym form))
     c.slot_json.ensures

@@ -12,4 +12,4 @@ returns-in-Json c =
     let blocks = c.args.blocks.now in
     let form : printed_list c.args.form heading word blocks ≡ line_of (blocks_object word blocks) = ap (λ form. printed_list form heading word blocks) c.in-Json.is in
     IfOk-weaker c.blocks_json.result _ (λ text. text.items ≡ c.args.out.items ++ printed_list c.args.form heading word blocks)
-    (λ text told. told ∙ ap (λ (told : List ℕ). c.args.out.items ++ told) (sym form)) c.blocks_json.ensures
+    (λ text reported. reported ∙ ap (λ (reported : List ℕ). c.args.out.items ++ reported) (sym form)) c.blocks_json.ensures

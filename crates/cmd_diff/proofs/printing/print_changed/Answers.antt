@@ -13,5 +13,5 @@ returns-in-Json c =
     let slot : c.old.inside.slot ≡ old.slot = search rules in
     let form : printed_change c.args.form (FileChanged old new) ≡ line_of (slot_object old.slot (codes "changed") (Some old) (Some new)) = ap (λ form. printed_change form (FileChanged old new)) c.in-Json.is in
     IfOk-weaker c.slot_json.result _ (λ text. text.items ≡ c.args.out.items ++ printed_change c.args.form (FileChanged old new))
-    (λ text told. told ∙ ap (λ (n : ℕ). c.args.out.items ++ line_of (slot_object n (codes "changed") (Some old) (Some new))) slot ∙ ap (λ (told : List ℕ). c.args.out.items ++ told) (sym form))
+    (λ text reported. reported ∙ ap (λ (n : ℕ). c.args.out.items ++ line_of (slot_object n (codes "changed") (Some old) (Some new))) slot ∙ ap (λ (reported : List ℕ). c.args.out.items ++ reported) (sym form))
     c.slot_json.ensures

@@ -19,11 +19,11 @@ returns c =
     let files = c.in_ok-files.files.items in
     let told_blocks : c.in_ok-blocks.blocks.items ≡ files ++ printed_changes form blocks =
     c.in_ok-blocks.ensures
-    ∙ ap (λ (told : List ℕ). files ++ told) (bytes_printed form c.as_slice.result.now ∙ ap (λ (bs : List ℕ). printed_changes form (where_any BlocksChanged bs)) listed) in
+    ∙ ap (λ (reported : List ℕ). files ++ reported) (bytes_printed form c.as_slice.result.now ∙ ap (λ (bs : List ℕ). printed_changes form (where_any BlocksChanged bs)) listed) in
     let told_codes = codes_printed form c.as_slice-2.result.now ∙ ap (λ (bs : List ℕ). printed_changes form (where_any CodesChanged bs)) listed_codes in
     IfOk-weaker c.print_blocks-2.result _ (λ text. text.items ≡ c.args.out.items ++ printed_changes form (changes old new))
-    (λ text told.
+    (λ text reported.
     then_printed form _ _ _ (disk_change old new) (slots ++ (blocks ++ read)) c.in_ok-disk.ensures
     (then_printed form _ _ _ slots (blocks ++ read) c.in_ok-files.ensures
-    (then_printed form _ _ _ blocks read told_blocks (told ∙ ap (λ (list : List ℕ). c.in_ok-blocks.blocks.items ++ list) told_codes))))
+    (then_printed form _ _ _ blocks read told_blocks (reported ∙ ap (λ (list : List ℕ). c.in_ok-blocks.blocks.items ++ list) told_codes))))
     c.print_blocks-2.ensures

@@ -20,10 +20,10 @@ loop-slot-preserved c =
     let invariant = c.loop-slot.invariant in
     let first : c.row-old_row.result ≡ row_at old slot = c.row-old_row.ensures.row ∙ ap₂ (λ (d : DumpView) (n : ℕ). row_at d n) invariant.before c.at.ensures in
     let second : c.row-new_row.result ≡ row_at new slot = c.row-new_row.ensures.row ∙ ap₂ (λ (d : DumpView) (n : ℕ). row_at d n) invariant.after c.at-in-loop-slot.ensures in
-    let told = c.in_ok-text.ensures ∙ ap₂ (λ (a b : Option FileRowView). text ++ printed_changes form (slot_change a b)) first second in
+    let reported = c.in_ok-text.ensures ∙ ap₂ (λ (a b : Option FileRowView). text ++ printed_changes form (slot_change a b)) first second in
     record {
       before = c.row-old_row.ensures.same ∙ invariant.before;
       after = c.row-new_row.ensures.same ∙ invariant.after;
-      text = then_printed form c.args.out.items text _ (slot_changes old new slot) (slot_change (row_at old slot) (row_at new slot)) invariant.text told
+      text = then_printed form c.args.out.items text _ (slot_changes old new slot) (slot_change (row_at old slot) (row_at new slot)) invariant.text reported
           ∙ ap (λ (list : List DumpChange). c.args.out.items ++ printed_changes form list) (slot_more old new slot);
     }

@@ -10,4 +10,4 @@ returns-clause-fields c =
     let file = c.args.file.now in
     let slot : c.file.inside.slot ≡ file.slot = search rules in
     let placed = c.in_ok-begin_place.ensures.fields ∙ ap (λ (n : ℕ). place_fields name n) slot in
-    on_ok_weaker c.push_file_fields.result (λ told. told ∙ ap (λ (fs : List (List ℕ)). fs ++ file_fields file) placed) c.push_file_fields.ensures.fields
+    on_ok_weaker c.push_file_fields.result (λ reported. reported ∙ ap (λ (fs : List (List ℕ)). fs ++ file_fields file) placed) c.push_file_fields.ensures.fields

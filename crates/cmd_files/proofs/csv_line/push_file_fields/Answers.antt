@@ -16,12 +16,12 @@ returns-clause-fields c =
     let entries = entry_fields seen.size seen.first seen.«record» ++ ways in
     let types = type_fields seen.kind seen.type_byte seen.closed seen.locked ++ entries in
     on_ok_weaker c.push_state.result
-    (λ told.
+    (λ reported.
     both_added _ _ _ (name_fields seen.field) types c.in_ok-push_names.ensures.fields
     (both_added _ _ _ (type_fields seen.kind seen.type_byte seen.closed seen.locked) entries c.in_ok-push_type.ensures.fields
     (both_added _ _ _ (entry_fields seen.size seen.first seen.«record») ways c.in_ok-push_entry.ensures.fields
     (both_added _ _ _ (way_fields seen.blocks seen.side) contents c.in_ok-push_ways.ensures.fields
-    (both_added _ _ _ (content_fields seen.content) (state_fields row) c.in_ok-push_content.ensures.fields told))))
+    (both_added _ _ _ (content_fields seen.content) (state_fields row) c.in_ok-push_content.ensures.fields reported))))
     ∙ ap (λ (r : FileRowView). fields_of c.args.line.now
     ++ (name_fields r.field ++ (type_fields r.kind r.type_byte r.closed r.locked ++ (entry_fields r.size r.first r.record_length ++ (way_fields r.blocks r.side ++ (content_fields r.content ++ state_fields row))))))
     c.row.view_is)

@@ -7,6 +7,6 @@ pub returns : goal.returns
 unfolding csv_row
 returns c =
     let row = c.args.row.now in
-    let told = c.in_ok-push_leftover_fields.ensures.fields ∙ ap (λ (fields : List (List ℕ)). fields ++ leftover_fields c.args.leftovers row) c.in_ok-begin_row.ensures.fields in
+    let reported = c.in_ok-push_leftover_fields.ensures.fields ∙ ap (λ (fields : List (List ℕ)). fields ++ leftover_fields c.args.leftovers row) c.in_ok-begin_row.ensures.fields in
     IfOk-weaker c.end_row.result _ (λ text. text.items ≡ c.args.out.items ++ csv_row c.args.leftovers c.args.name.now row)
-    (λ text ended. ended ∙ ap (λ (fields : List (List ℕ)). c.args.out.items ++ row_with fields []) told) c.end_row.ensures
+    (λ text ended. ended ∙ ap (λ (fields : List (List ℕ)). c.args.out.items ++ row_with fields []) reported) c.end_row.ensures

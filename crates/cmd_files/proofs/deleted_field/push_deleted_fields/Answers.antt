@@ -17,12 +17,12 @@ returns-clause-fields c =
     let entries = entry_fields seen.size seen.first None ++ ways in
     let types = type_fields None 0 false false ++ entries in
     on_ok_weaker c.push_state.result
-    (λ told.
+    (λ reported.
     both_added _ _ _ (name_fields seen.field) types c.in_ok-push_names.ensures.fields
     (both_added _ _ _ (type_fields None 0 false false) entries c.in_ok-push_type.ensures.fields
     (both_added _ _ _ (entry_fields seen.size seen.first None) ways c.in_ok-push_entry.ensures.fields
     (both_added _ _ _ (way_fields (Some seen.blocks) None) contents c.in_ok-push_ways.ensures.fields
-    (both_added _ _ _ (content_fields seen.content) (loss_fields row) c.in_ok-push_content.ensures.fields told))))
+    (both_added _ _ _ (content_fields seen.content) (loss_fields row) c.in_ok-push_content.ensures.fields reported))))
     ∙ ap (λ (r : DeletedRowView). fields_of c.args.line.now
     ++ (name_fields r.field ++ (type_fields None 0 false false ++ (entry_fields r.size r.first None ++ (way_fields (Some r.blocks) None ++ (content_fields r.content ++ loss_fields row))))))
     c.row.view_is)

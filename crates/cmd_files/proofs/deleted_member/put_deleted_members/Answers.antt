@@ -17,12 +17,12 @@ returns-clause-tokens c =
     let entries : List Field = entry_members seen.size seen.first None ++ ways in
     let types : List Field = type_members None 0 false false ++ entries in
     on_ok_weaker c.put_state.result
-    (λ told.
+    (λ reported.
     members_written _ _ _ (name_members seen.field) types c.in_ok-put_names.ensures.tokens
     (members_written _ _ _ (type_members None 0 false false) entries c.in_ok-put_type.ensures.tokens
     (members_written _ _ _ (entry_members seen.size seen.first None) ways c.in_ok-put_entry.ensures.tokens
     (members_written _ _ _ (way_members (Some seen.blocks) None) contents c.in_ok-put_ways.ensures.tokens
-    (members_written _ _ _ (content_members seen.content) (loss_members row) c.in_ok-put_content.ensures.tokens told))))
+    (members_written _ _ _ (content_members seen.content) (loss_members row) c.in_ok-put_content.ensures.tokens reported))))
     ∙ ap (λ (r : DeletedRowView). c.args.writer.now.tokens
     ++ member_tokens (name_members r.field ++ (type_members None 0 false false ++ (entry_members r.size r.first None ++ (way_members (Some r.blocks) None ++ (content_members r.content ++ loss_members row))))))
     c.row.view_is)

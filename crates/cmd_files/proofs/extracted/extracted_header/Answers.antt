@@ -9,7 +9,7 @@ pub returns : goal.returns
 unfolding extracted_header
 returns c =
     let more = leftover_columns c.args.leftovers in
-    let told = both_added _ _ _ (codes "file" ∷ []) more c.in_ok-push_field.ensures.fields c.in_ok-push_leftover_columns.ensures.fields in
-    let all = told ∙ ap (λ (fields : List (List ℕ)). fields ++ (codes "file" ∷ more)) c.in_ok-begin_header.ensures.fields in
+    let reported = both_added _ _ _ (codes "file" ∷ []) more c.in_ok-push_field.ensures.fields c.in_ok-push_leftover_columns.ensures.fields in
+    let all = reported ∙ ap (λ (fields : List (List ℕ)). fields ++ (codes "file" ∷ more)) c.in_ok-begin_header.ensures.fields in
     IfOk-weaker c.end_row.result _ (λ text. text.items ≡ c.args.out.items ++ extracted_header c.args.leftovers)
     (λ text ended. ended ∙ ap (λ (fields : List (List ℕ)). c.args.out.items ++ row_with fields (codes "error")) all) c.end_row.ensures

@@ -14,14 +14,14 @@ returns c =
     let path : List Field = path_member (option_map (λ p. p.now) c.args.path) ∷ [] in
     let leftovers : List Field = leftover_members c.args.leftovers row in
     let opened = c.begin_object.new.self.tokens in
-    let told = c.put_row_members.new.writer.tokens in
+    let reported = c.put_row_members.new.writer.tokens in
     let placed = c.put_path.new.writer.tokens in
     let last = c.put_leftover_members.new.writer.tokens in
     let closed = c.end_object.new.self.tokens in
     let opens : opened ≡ [] ++ begin_object ∷ [] = search rules in
     let closes : closed ≡ last ++ end_object ∷ [] = search rules in
-    let ended = members_written told placed last path leftovers c.in_ok-put_path.ensures.tokens c.in_ok-put_leftover_members.ensures.tokens in
-    let all = members_written opened told last (row_members name row) (path ++ leftovers) c.in_ok-put_row_members.ensures.tokens ended in
+    let ended = members_written reported placed last path leftovers c.in_ok-put_path.ensures.tokens c.in_ok-put_leftover_members.ensures.tokens in
+    let all = members_written opened reported last (row_members name row) (path ++ leftovers) c.in_ok-put_row_members.ensures.tokens ended in
     let object = object_written [] opened last closed (row_members name row ++ (path ++ leftovers)) opens all closes in
     let before : c.end_object.new.self.before ≡ c.args.out.items = search rules in
     c.in_ok-text.ensures ∙ ap₂ (λ (b : List ℕ) (ts : List Token). b ++ printed_line ts) before object

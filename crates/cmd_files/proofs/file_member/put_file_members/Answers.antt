@@ -16,12 +16,12 @@ returns-clause-tokens c =
     let entries : List Field = entry_members seen.size seen.first seen.«record» ++ ways in
     let types : List Field = type_members seen.kind seen.type_byte seen.closed seen.locked ++ entries in
     on_ok_weaker c.put_state.result
-    (λ told.
+    (λ reported.
     members_written _ _ _ (name_members seen.field) types c.in_ok-put_names.ensures.tokens
     (members_written _ _ _ (type_members seen.kind seen.type_byte seen.closed seen.locked) entries c.in_ok-put_type.ensures.tokens
     (members_written _ _ _ (entry_members seen.size seen.first seen.«record») ways c.in_ok-put_entry.ensures.tokens
     (members_written _ _ _ (way_members seen.blocks seen.side) contents c.in_ok-put_ways.ensures.tokens
-    (members_written _ _ _ (content_members seen.content) (state_members row) c.in_ok-put_content.ensures.tokens told))))
+    (members_written _ _ _ (content_members seen.content) (state_members row) c.in_ok-put_content.ensures.tokens reported))))
     ∙ ap (λ (r : FileRowView). c.args.writer.now.tokens
     ++ member_tokens (name_members r.field ++ (type_members r.kind r.type_byte r.closed r.locked ++ (entry_members r.size r.first r.record_length ++ (way_members r.blocks r.side ++ (content_members r.content ++ state_members row))))))
     c.row.view_is)

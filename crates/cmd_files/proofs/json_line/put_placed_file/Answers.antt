@@ -13,5 +13,5 @@ returns-clause-tokens c =
     let slot : c.file.inside.slot ≡ file.slot = search rules in
     let placed = c.in_ok-put_place.ensures.tokens ∙ ap (λ (n : ℕ). c.args.writer.now.tokens ++ member_tokens (place_members name n)) slot in
     on_ok_weaker c.put_file_members.result
-    (λ told. members_written _ _ _ (place_members name file.slot) (file_members file) placed told)
+    (λ reported. members_written _ _ _ (place_members name file.slot) (file_members file) placed reported)
     c.put_file_members.ensures.tokens

@@ -8,5 +8,5 @@ use Rattle.cmd_files.proofs.json_line.put_placed_orphan.Goals as goal
 pub returns-clause-tokens : goal.returns-clause-tokens
 returns-clause-tokens c =
     on_ok_weaker c.put_orphan_members.result
-    (λ told. members_written _ _ _ (orphan_place c.args.name.now) (orphan_members c.args.chain.now) c.in_ok-put_orphan_place.ensures.tokens told)
+    (λ reported. members_written _ _ _ (orphan_place c.args.name.now) (orphan_members c.args.chain.now) c.in_ok-put_orphan_place.ensures.tokens reported)
     c.put_orphan_members.ensures.tokens

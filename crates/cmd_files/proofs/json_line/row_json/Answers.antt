@@ -12,12 +12,12 @@ returns c =
     let row = c.args.row.now in
     let leftovers = c.args.leftovers in
     let opened = c.begin_object.new.self.tokens in
-    let told = c.put_row_members.new.writer.tokens in
+    let reported = c.put_row_members.new.writer.tokens in
     let last = c.put_leftover_members.new.writer.tokens in
     let closed = c.end_object.new.self.tokens in
     let opens : opened ≡ [] ++ begin_object ∷ [] = search rules in
     let closes : closed ≡ last ++ end_object ∷ [] = search rules in
-    let all = members_written opened told last (row_members name row) (leftover_members leftovers row) c.in_ok-put_row_members.ensures.tokens c.in_ok-put_leftover_members.ensures.tokens in
+    let all = members_written opened reported last (row_members name row) (leftover_members leftovers row) c.in_ok-put_row_members.ensures.tokens c.in_ok-put_leftover_members.ensures.tokens in
     let object = object_written [] opened last closed (row_members name row ++ leftover_members leftovers row) opens all closes in
     let before : c.end_object.new.self.before ≡ c.args.out.items = search rules in
     c.in_ok-text.ensures ∙ ap₂ (λ (b : List ℕ) (ts : List Token). b ++ printed_line ts) before object

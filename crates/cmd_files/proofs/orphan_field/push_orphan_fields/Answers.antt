@@ -17,12 +17,12 @@ returns-clause-fields c =
     let entries = orphan_entry_fields row ++ ways in
     let types = old_type_fields seen.old ++ entries in
     on_ok_weaker c.push_orphan_state.result
-    (λ told.
+    (λ reported.
     both_added _ _ _ (old_name_fields seen.old) types c.in_ok-push_old_names.ensures.fields
     (both_added _ _ _ (old_type_fields seen.old) entries c.in_ok-push_old_type.ensures.fields
     (both_added _ _ _ (orphan_entry_fields row) ways c.in_ok-push_orphan_entry.ensures.fields
     (both_added _ _ _ (way_fields (Some seen.blocks) None) contents c.in_ok-push_ways.ensures.fields
-    (both_added _ _ _ (content_fields seen.content) (orphan_state_fields row) c.in_ok-push_content.ensures.fields told))))
+    (both_added _ _ _ (content_fields seen.content) (orphan_state_fields row) c.in_ok-push_content.ensures.fields reported))))
     ∙ ap (λ (r : OrphanRowView). fields_of c.args.line.now
     ++ (old_name_fields r.old ++ (old_type_fields r.old ++ (orphan_entry_fields row ++ (way_fields (Some r.blocks) None ++ (content_fields r.content ++ orphan_state_fields row))))))
     c.row.view_is)

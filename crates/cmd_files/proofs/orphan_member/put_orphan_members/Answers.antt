@@ -17,12 +17,12 @@ returns-clause-tokens c =
     let entries : List Field = orphan_entry_members row ++ ways in
     let types : List Field = old_type_members seen.old ++ entries in
     on_ok_weaker c.put_orphan_state.result
-    (λ told.
+    (λ reported.
     members_written _ _ _ (old_name_members seen.old) types c.in_ok-put_old_names.ensures.tokens
     (members_written _ _ _ (old_type_members seen.old) entries c.in_ok-put_old_type.ensures.tokens
     (members_written _ _ _ (orphan_entry_members row) ways c.in_ok-put_orphan_entry.ensures.tokens
     (members_written _ _ _ (way_members (Some seen.blocks) None) contents c.in_ok-put_ways.ensures.tokens
-    (members_written _ _ _ (content_members seen.content) (orphan_state_members row) c.in_ok-put_content.ensures.tokens told))))
+    (members_written _ _ _ (content_members seen.content) (orphan_state_members row) c.in_ok-put_content.ensures.tokens reported))))
     ∙ ap (λ (r : OrphanRowView). c.args.writer.now.tokens
     ++ member_tokens (old_name_members r.old ++ (old_type_members r.old ++ (orphan_entry_members row ++ (way_members (Some r.blocks) None ++ (content_members r.content ++ orphan_state_members row))))))
     c.row.view_is)

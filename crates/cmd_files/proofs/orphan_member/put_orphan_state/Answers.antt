@@ -13,9 +13,9 @@ returns-clause-tokens c =
     let conditions : List Field = (codes "conditions", array_of []) ∷ last in
     let reasons : List Field = (codes "why", array_of []) ∷ conditions in
     on_ok_weaker c.put_number.result
-    (λ told.
+    (λ reported.
     members_written _ _ _ ((codes "whole", null) ∷ []) reasons c.in_ok-put_answer.ensures.tokens
     (members_written _ _ _ ((codes "why", array_of []) ∷ []) conditions c.in_ok-put_why.ensures.tokens
     (members_written _ _ _ ((codes "conditions", array_of []) ∷ []) last c.in_ok-put_conditions.ensures.tokens
-    (told ∙ ap (λ (n : ℕ). c.put_conditions.new.writer.tokens ++ member_tokens ((codes "read_errors", numeral n) ∷ [])) errors))))
+    (reported ∙ ap (λ (n : ℕ). c.put_conditions.new.writer.tokens ++ member_tokens ((codes "read_errors", numeral n) ∷ [])) errors))))
     c.put_number.ensures.tokens

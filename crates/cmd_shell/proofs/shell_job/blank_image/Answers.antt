@@ -26,14 +26,14 @@ of_count tracks most r same made =
     IfOk-weaker r _ _ (λ image is. is ∙ ap (λ b. replicate (cond b 768 683) (replicate BLOCK_BYTES 0)) (sym same)) made
 
 -- the tests of the code
-asked : (tracks : ℕ) (count : Option ℕ) (told most : Bool) → count ≡ blocks_of tracks → told ≡ option_eq eqb count (Some 768) → told ≡ most → (tracks == 40) ≡ most
-asked tracks count told most is test answer =
+tested : (tracks : ℕ) (count : Option ℕ) (reported most : Bool) → count ≡ blocks_of tracks → reported ≡ option_eq eqb count (Some 768) → reported ≡ most → (tracks == 40) ≡ most
+tested tracks count reported most is test answer =
     sym (has_most tracks) ∙ ap (λ (n : Option ℕ). option_eq eqb n (Some 768)) (sym is) ∙ sym test ∙ answer
 
 pub returns-then-eq : goal.returns-then-eq
 returns-then-eq c =
-    of_count c.args.tracks true c.zeroed40.result (asked c.args.tracks c.blocks_of.result c.eq.result true c.blocks_of.ensures.count c.eq.ensures c.if-eq.true) c.zeroed40.ensures
+    of_count c.args.tracks true c.zeroed40.result (tested c.args.tracks c.blocks_of.result c.eq.result true c.blocks_of.ensures.count c.eq.ensures c.if-eq.true) c.zeroed40.ensures
 
 pub returns-else-eq : goal.returns-else-eq
 returns-else-eq c =
-    of_count c.args.tracks false c.zeroed.result (asked c.args.tracks c.blocks_of.result c.eq.result false c.blocks_of.ensures.count c.eq.ensures c.if-eq.false) c.zeroed.ensures
+    of_count c.args.tracks false c.zeroed.result (tested c.args.tracks c.blocks_of.result c.eq.result false c.blocks_of.ensures.count c.eq.ensures c.if-eq.false) c.zeroed.ensures

@@ -51,7 +51,7 @@ returns-in-Err-Resume-clause-none g c =
         counted = opened.counted;
         kept = opened.files_kept;
       },
-      subst (λ (told : ProgramFault). GivesNoSession (Ok read.0) told) (sym c.into.ensures) (gives_none c.in-Err-Resume.fault read.0 read.4),
+      subst (λ (reported : ProgramFault). GivesNoSession (Ok read.0) reported) (sym c.into.ensures) (gives_none c.in-Err-Resume.fault read.0 read.4),
     )
 
 -- there is more than may be read

@@ -1,5 +1,5 @@
 use Rattle.std.proofs.Common.{◌≡◌, ◌∙◌, List, ℕ, ap, map, string_bytes, subst}
-use Rattle.program_arguments.specs.Asked.{IsFault}
+use Rattle.program_arguments.specs.Requested.{IsFault}
 use Rattle.d64_shell.specs.Program.{named_words}
 use Rattle.d64_shell.proofs.asking.fault_as_shown.Goals as goal
 

@@ -8,7 +8,7 @@ use Rattle.clap.specs.declared.builder.command.Command.{Command}
 use Rattle.clap.specs.declared.parser.matches.ArgMatches.{ArgMatches}
 use Rattle.program_arguments.specs.Commands.{d64sh, app_named}
 use Rattle.program_arguments.proofs.Alone.{free, same_fault, same_met, simple}
-use Rattle.program_arguments.proofs.Parses.{asked, refused, told}
+use Rattle.program_arguments.proofs.Parses.{asked, refused, reported}
 use Rattle.program_arguments.proofs.Required.{met_is_whole}
 use Rattle.program_arguments.proofs.reading.job.Goals as goal
 
@@ -78,4 +78,4 @@ returns-in_ok-explained-in-Err-clause-fault c =
     let lookup = c.in-Some.ensures.lookup in
     let begins = begins_with lookup.3.0 lookup.1 c.in_ok-command.ensures c.in-Some-2.is in
     let kinds = c.in-Err.ensures.kinds (is_free begins) in
-    told _ c.in_ok-explained-in-Err.field-0 c.from.result (rw (← fault_is begins, c.in_ok-explained-in-Err.ensures) kinds) c.from.ensures
+    reported _ c.in_ok-explained-in-Err.field-0 c.from.result (rw (← fault_is begins, c.in_ok-explained-in-Err.ensures) kinds) c.from.ensures

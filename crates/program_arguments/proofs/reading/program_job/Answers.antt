@@ -1,14 +1,14 @@
 use Rattle.std.proofs.Common.{[], ap, sym, true≢false, ◌∙◌}
 use Rattle.std.proofs.lemmas.Result.{IfOk-weaker, IfErr-weaker}
 use Rattle.clap.specs.Words.{App}
-use Rattle.program_arguments.proofs.Parses.{asked, command_is_free, met_is, no_fault, refused, told, wants_subcommand}
+use Rattle.program_arguments.proofs.Parses.{asked, command_is_free, met_is, no_fault, refused, reported, wants_subcommand}
 use Rattle.program_arguments.proofs.Required.{met_is_whole}
 use Rattle.program_arguments.proofs.reading.program_job.Goals as goal
 
 pub returns-in-Err-clause-fault : goal.returns-in-Err-clause-fault
 returns-in-Err-clause-fault c =
     let kinds = c.in-Err.ensures.kinds (command_is_free c.in_ok-d64sh.field-0 [] c.in_ok-d64sh.ensures.0) in
-    told _ c.in_ok-with_tip-in-Err.field-0 c.from.result (rw (← c.in_ok-d64sh.ensures.0, c.in_ok-with_tip-in-Err.ensures) kinds) c.from.ensures
+    reported _ c.in_ok-with_tip-in-Err.field-0 c.from.result (rw (← c.in_ok-d64sh.ensures.0, c.in_ok-with_tip-in-Err.ensures) kinds) c.from.ensures
 
 pub unreachable-requires : goal.unreachable-requires
 unreachable-requires c =

@@ -18,11 +18,11 @@ pub returns-in_err-write-2-clause-either : goal.returns-in_err-write-2-clause-ei
 returns-in_err-write-2-clause-either g c =
     let i = c.loop-piece.invariant in
     let all = c.args.advice.pieces in
-    let told : List CodePiece → List ℕ = λ ps. flat_map (said_piece c.args.said.now) (map piece_of ps) in
+    let advised : List CodePiece → List ℕ = λ ps. flat_map (said_piece c.args.said.now) (map piece_of ps) in
     let word = c.of.result.now in
-    let more : List ℕ = told (drop (c.loop-piece.piece-index + 1) all) in
+    let more : List ℕ = advised (drop (c.loop-piece.piece-index + 1) all) in
     let within : c.loop-piece.piece-index < length all = search rules in
-    let next : told (drop c.loop-piece.piece-index all) ≡ word ++ more = rw c.of.ensures (at_drop_more told all c.loop-piece.piece-index _ within) in
+    let next : advised (drop c.loop-piece.piece-index all) ≡ word ++ more = rw c.of.ensures (at_drop_more advised all c.loop-piece.piece-index _ within) in
     let is : i.done ++ (word ++ more) ≡ flat_map (said_piece c.args.said.now) (pieces c.args.advice) = ap (λ l. i.done ++ l) (sym next) ∙ i.split in
     let old = g.W.Write.contents c.args.output.now.writer.now in
     let new = g.W.Write.contents c.write-in-loop-piece.new.self.writer.now in
@@ -38,11 +38,11 @@ pub loop-piece-preserved : goal.loop-piece-preserved
 loop-piece-preserved g c =
     let i = c.loop-piece.invariant in
     let all = c.args.advice.pieces in
-    let told : List CodePiece → List ℕ = λ ps. flat_map (said_piece c.args.said.now) (map piece_of ps) in
+    let advised : List CodePiece → List ℕ = λ ps. flat_map (said_piece c.args.said.now) (map piece_of ps) in
     let word = c.of.result.now in
-    let more : List ℕ = told (drop (c.loop-piece.piece-index + 1) all) in
+    let more : List ℕ = advised (drop (c.loop-piece.piece-index + 1) all) in
     let within : c.loop-piece.piece-index < length all = search rules in
-    let next : told (drop c.loop-piece.piece-index all) ≡ word ++ more = rw c.of.ensures (at_drop_more told all c.loop-piece.piece-index _ within) in
+    let next : advised (drop c.loop-piece.piece-index all) ≡ word ++ more = rw c.of.ensures (at_drop_more advised all c.loop-piece.piece-index _ within) in
     let old = g.W.Write.contents c.args.output.now.writer.now in
     let new = g.W.Write.contents c.write-in-loop-piece.new.self.writer.now in
     record {
@@ -61,8 +61,8 @@ returns-clause-either g c =
     let i = c.loop-piece.invariant in
     let past : length c.args.advice.pieces ≤ c.loop-piece.piece-index = search rules in
     let none = drop_all c.loop-piece.piece-index c.args.advice.pieces past in
-    let told : List CodePiece → List ℕ = λ ps. flat_map (said_piece c.args.said.now) (map piece_of ps) in
-    let whole : i.done ≡ flat_map (said_piece c.args.said.now) (pieces c.args.advice) = sym (append-nil i.done) ∙ ap (λ l. i.done ++ told l) (sym none) ∙ i.split in
+    let advised : List CodePiece → List ℕ = λ ps. flat_map (said_piece c.args.said.now) (map piece_of ps) in
+    let whole : i.done ≡ flat_map (said_piece c.args.said.now) (pieces c.args.advice) = sym (append-nil i.done) ∙ ap (λ l. i.done ++ advised l) (sym none) ∙ i.split in
     let old = account_of (g.W.Write.contents c.args.output.now.writer.now) c.args.output.now.has_failed in
     let new = account_of (g.W.Write.contents c.write-2.new.self.writer.now) c.write-2.new.self.has_failed in
     subst (Writes old new) (append_assoc (c.args.start.now) i.done (codes "\n") ∙ ap (λ l. c.args.start.now ++ (l ++ codes "\n")) whole)

@@ -11,7 +11,7 @@ returns g c = λ task rest path_is.
     let p = progress_of c.args.self.now in
     let host = g.H.Host.state c.args.host.now in
     let reason = c.reason_at-reason.result in
-    comes_to c.tell_failure.result (after_putting task p rest c.args.is_put) rest host host _ (unput_progress task reason p)
-    (unput_said c.tell_failure.result task reason p c.deref-2.result.now _ _ _ _ _ (c.deref-2.ensures.value ∙ path_is) c.tell_failure.ensures.printed
-    (c.tell_failure.ensures.lines ∙ c.clear.ensures.items) c.tell_failure.ensures.list c.tell_failure.ensures.complaint c.tell_failure.ensures.failed)
+    comes_to c.report_failure.result (after_putting task p rest c.args.is_put) rest host host _ (unput_progress task reason p)
+    (unput_said c.report_failure.result task reason p c.deref-2.result.now _ _ _ _ _ (c.deref-2.ensures.value ∙ path_is) c.report_failure.ensures.printed
+    (c.report_failure.ensures.lines ∙ c.clear.ensures.items) c.report_failure.ensures.list c.report_failure.ensures.complaint c.report_failure.ensures.failed)
     (piece_unput task p rest host c.args.is_put reason c.if-is_put.false c.reason_at-reason.ensures)

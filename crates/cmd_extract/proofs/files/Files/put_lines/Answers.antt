@@ -18,7 +18,7 @@ returns-in-New g c = λ rest.
     let now = g.H.Host.state c.make_file-is_put.new.host in
     let path_is : c.put_path.new.path.items ≡ list_path task = search rules in
     comes_further c.end_piece.result _ (after_putting task p rest c.make_file-is_put.result) _ old now now
-    (put_new task p rest c.args.self.now.told.list c.deref-in-New.result.now c.deref-in-New-2.result.now old now c.make_file-is_put.result c.in-New.is
+    (put_new task p rest c.args.self.now.reported.list c.deref-in-New.result.now c.deref-in-New-2.result.now old now c.make_file-is_put.result c.in-New.is
     (c.deref-in-New.ensures.value ∙ path_is) c.deref-in-New-2.ensures.value c.make_file-is_put.ensures)
     (c.end_piece.ensures task rest path_is)
 
@@ -30,7 +30,7 @@ returns-in-Begun g c = λ rest.
     let now = g.H.Host.state c.extend_file-is_put.new.host in
     let path_is : c.put_path.new.path.items ≡ list_path task = search rules in
     comes_further c.end_piece-in-Begun.result _ (after_putting task p rest c.extend_file-is_put.result) _ old now now
-    (put_more task p rest c.args.self.now.told.list c.deref-in-Begun.result.now c.deref-in-Begun-2.result.now old now c.extend_file-is_put.result c.in-Begun.is
+    (put_more task p rest c.args.self.now.reported.list c.deref-in-Begun.result.now c.deref-in-Begun-2.result.now old now c.extend_file-is_put.result c.in-Begun.is
     (c.deref-in-Begun.ensures.value ∙ path_is) c.deref-in-Begun-2.ensures.value c.extend_file-is_put.ensures)
     (c.end_piece-in-Begun.ensures task rest path_is)
 
@@ -38,6 +38,6 @@ pub returns-in-GivenUp : goal.returns-in-GivenUp
 returns-in-GivenUp g c = λ rest.
     let task = c.args.task.now in
     let p = progress_of c.args.self.now in
-    let list = c.args.self.now.told.list in
+    let list = c.args.self.now.reported.list in
     let host = g.H.Host.state c.args.host.now in
     subst (λ (l : List ℕ). LeadsTo (put_work list task p rest) host (rest (record p { lines = l })) host) (sym c.clear.ensures.items) (put_none task p rest list host c.in-GivenUp.is)

@@ -3,11 +3,11 @@ use Rattle.std.specs.Prelude.{option_map}
 use Rattle.cmd_extract_contents.specs.Limits.{left_after, portion_within}
 use Rattle.cmd_extract_contents.specs.declared.extent.Extent.{Extent}
 use Rattle.cmd_extract.specs.Work.{Work, Comes, LeadsTo}
-use Rattle.cmd_extract.specs.Progress.{portion_of, spent_progress, named_progress, told_progress}
+use Rattle.cmd_extract.specs.Progress.{portion_of, spent_progress, named_progress, reported_progress}
 use Rattle.cmd_extract.specs.FilesNow.{progress_of}
 use Rattle.cmd_extract.specs.Unpacking.{file_work}
 use Rattle.cmd_extract.proofs.Steps.{stops, comes_to, comes_not, nothing_yet}
-use Rattle.cmd_extract.proofs.FileSteps.{portion_same, file_some, file_none, told_none}
+use Rattle.cmd_extract.proofs.FileSteps.{portion_same, file_some, file_none, reported_none}
 use Rattle.cmd_extract.proofs.files.Files.unpack_file.Goals as goal
 
 pub returns-in_err-extent : goal.returns-in_err-extent
@@ -50,6 +50,6 @@ returns-in-None g c = λ rest.
     let found : None ≡ portion_within left (portion_of task row) =
     ap (option_map (λ (e : Extent). record { bytes = c.next_row.new.bytes.items; extent = e })) (sym c.in-None.is) ∙ c.in_ok-extent.ensures.written ∙ ap (portion_within left) same in
     let left_is : c.next_row.new.self ≡ left_after left (portion_of task row) = c.in_ok-extent.ensures.left ∙ ap (left_after left) same in
-    comes_to c.tell.result (file_work task row (spent_progress task row p) (portion_within left (portion_of task row)) rest) rest host host _ (told_progress task row None (spent_progress task row p))
-    (told_none c.tell.result task row p c.next_row.new.self _ _ _ _ _ left_is c.tell.ensures.printed c.tell.ensures.lines c.tell.ensures.complaint c.tell.ensures.list c.tell.ensures.failed)
-    (subst (λ (w : Work). LeadsTo w host (rest (told_progress task row None (spent_progress task row p))) host) (file_none task row (spent_progress task row p) (portion_within left (portion_of task row)) rest found) (nothing_yet _ host))
+    comes_to c.report.result (file_work task row (spent_progress task row p) (portion_within left (portion_of task row)) rest) rest host host _ (reported_progress task row None (spent_progress task row p))
+    (reported_none c.report.result task row p c.next_row.new.self _ _ _ _ _ left_is c.report.ensures.printed c.report.ensures.lines c.report.ensures.complaint c.report.ensures.list c.report.ensures.failed)
+    (subst (λ (w : Work). LeadsTo w host (rest (reported_progress task row None (spent_progress task row p))) host) (file_none task row (spent_progress task row p) (portion_within left (portion_of task row)) rest found) (nothing_yet _ host))

@@ -19,8 +19,8 @@ returns-then-make_file g c = λ rest.
     let old = g.H.Host.state c.args.host.now in
     let now = g.H.Host.state c.make_file.new.host in
     let path_is : c.deref-3.result.now ≡ path_in task.partial file = search rules in
-    comes_to c.tell_written.result (write_work task row file c.args.self.now.bytes.items p rest) rest old now
-    (progress_of c.tell_written.new.self) (written_progress task row file p) c.tell_written.ensures
+    comes_to c.report_written.result (write_work task row file c.args.self.now.bytes.items p rest) rest old now
+    (progress_of c.report_written.new.self) (written_progress task row file p) c.report_written.ensures
     (further _ (after_writing task row file p rest c.make_file.result) _ old now now
     (wrote task row file c.args.self.now.bytes.items c.deref-3.result.now c.deref-4.result.now p rest old now c.make_file.result path_is c.deref-4.ensures.value c.make_file.ensures)
     (was_written task row file p rest now c.make_file.result c.if-make_file.true))
@@ -35,8 +35,8 @@ returns-else-make_file g c = λ rest.
     let now = g.H.Host.state c.make_file.new.host in
     let reason = c.reason_at-reason.result in
     let path_is : c.deref-3.result.now ≡ path_in task.partial file = search rules in
-    comes_to c.tell_unwritten.result (write_work task row file c.args.self.now.bytes.items p rest) rest old now
-    (progress_of c.tell_unwritten.new.self) (unwritten_progress task row file reason p) c.tell_unwritten.ensures
+    comes_to c.report_unwritten.result (write_work task row file c.args.self.now.bytes.items p rest) rest old now
+    (progress_of c.report_unwritten.new.self) (unwritten_progress task row file reason p) c.report_unwritten.ensures
     (further _ (after_writing task row file p rest c.make_file.result) _ old now now
     (wrote task row file c.args.self.now.bytes.items c.deref-3.result.now c.deref-4.result.now p rest old now c.make_file.result path_is c.deref-4.ensures.value c.make_file.ensures)
     (was_not task row file p rest now c.make_file.result reason c.if-make_file.false c.reason_at-reason.ensures))

@@ -13,12 +13,12 @@ pub returns-then-not-setup : goal.returns-then-not-setup
 returns-then-not-setup g c =
     let task = c.args.self.now in
     let host = g.H.Host.state c.args.host.now in
-    let room = c.tell_present.new.room in
+    let buffer = c.report_present.new.buffer in
     let same : c.setup.inside.skips ≡ task.setup.skips = search rules in
-    let told_is : c.deref.result.now ≡ task.done = c.deref.ensures ∙ ap (λ (t : TaskView). t.done) c.self.view_is in
-    subst (λ (w : Work). Ends c.tell_present.result room w host host) (not_skipped task (sym same ∙ c.if-not-setup.true))
-    (ends_with c.tell_present.result room (present_answer task task.done) host
-    (subst (λ (q : List ℕ). IfOk c.tell_present.result (λ (v : Verdict). answer_in room v ≡ present_answer task q)) told_is c.tell_present.ensures))
+    let reported_is : c.deref.result.now ≡ task.done = c.deref.ensures ∙ ap (λ (t : TaskView). t.done) c.self.view_is in
+    subst (λ (w : Work). Ends c.report_present.result buffer w host host) (not_skipped task (sym same ∙ c.if-not-setup.true))
+    (ends_with c.report_present.result buffer (present_answer task task.done) host
+    (subst (λ (q : List ℕ). IfOk c.report_present.result (λ (v : Verdict). answer_in buffer v ≡ present_answer task q)) reported_is c.report_present.ensures))
 
 pub returns-in_err-list : goal.returns-in_err-list
 returns-in_err-list g c = ends_not c.from_residual.result _ _ _ _ c.from_residual.ensures.0 (stops _ _)
@@ -27,26 +27,26 @@ pub returns-then-is_there : goal.returns-then-is_there
 returns-then-is_there g c =
     let task = c.args.self.now in
     let host = g.H.Host.state c.args.host.now in
-    let room = c.tell_skipped.new.room in
+    let buffer = c.report_skipped.new.buffer in
     let same : c.setup.inside.skips ≡ task.setup.skips = search rules in
     let done_is : c.deref-2.result.now ≡ task.done = c.deref-2.ensures ∙ ap (λ (t : TaskView). t.done) c.self.view_is in
     let path_is : c.deref-3.result.now ≡ list_in task.done = c.deref-3.ensures ∙ c.in_ok-list.ensures ∙ ap list_in done_is in
-    ends_after c.tell_skipped.result room (present_work task) (Done (cond c.is_there.result (skipped_answer task) (present_answer task task.done))) host host host
+    ends_after c.report_skipped.result buffer (present_work task) (Done (cond c.is_there.result (skipped_answer task) (present_answer task task.done))) host host host
     (looked_into task c.deref-3.result.now host c.is_there.result (sym same ∙ c.if-not-setup.false) path_is c.is_there.ensures)
-    (subst (λ (s : Bool). Ends c.tell_skipped.result room (Done (cond s (skipped_answer task) (present_answer task task.done))) host host) (sym c.if-is_there.true)
-    (ends_with c.tell_skipped.result room (skipped_answer task) host c.tell_skipped.ensures))
+    (subst (λ (s : Bool). Ends c.report_skipped.result buffer (Done (cond s (skipped_answer task) (present_answer task task.done))) host host) (sym c.if-is_there.true)
+    (ends_with c.report_skipped.result buffer (skipped_answer task) host c.report_skipped.ensures))
 
 pub returns : goal.returns
 returns g c =
     let task = c.args.self.now in
     let host = g.H.Host.state c.args.host.now in
-    let room = c.tell_present-else-is_there.new.room in
+    let buffer = c.report_present-else-is_there.new.buffer in
     let same : c.setup.inside.skips ≡ task.setup.skips = search rules in
     let done_is : c.deref-2.result.now ≡ task.done = c.deref-2.ensures ∙ ap (λ (t : TaskView). t.done) c.self.view_is in
     let path_is : c.deref-3.result.now ≡ list_in task.done = c.deref-3.ensures ∙ c.in_ok-list.ensures ∙ ap list_in done_is in
-    let told_is : c.deref-else-is_there.result.now ≡ task.done = c.deref-else-is_there.ensures ∙ ap (λ (t : TaskView). t.done) c.self.view_is in
-    ends_after c.tell_present-else-is_there.result room (present_work task) (Done (cond c.is_there.result (skipped_answer task) (present_answer task task.done))) host host host
+    let reported_is : c.deref-else-is_there.result.now ≡ task.done = c.deref-else-is_there.ensures ∙ ap (λ (t : TaskView). t.done) c.self.view_is in
+    ends_after c.report_present-else-is_there.result buffer (present_work task) (Done (cond c.is_there.result (skipped_answer task) (present_answer task task.done))) host host host
     (looked_into task c.deref-3.result.now host c.is_there.result (sym same ∙ c.if-not-setup.false) path_is c.is_there.ensures)
-    (subst (λ (s : Bool). Ends c.tell_present-else-is_there.result room (Done (cond s (skipped_answer task) (present_answer task task.done))) host host) (sym c.if-is_there.false)
-    (ends_with c.tell_present-else-is_there.result room (present_answer task task.done) host
-    (subst (λ (q : List ℕ). IfOk c.tell_present-else-is_there.result (λ (v : Verdict). answer_in room v ≡ present_answer task q)) told_is c.tell_present-else-is_there.ensures)))
+    (subst (λ (s : Bool). Ends c.report_present-else-is_there.result buffer (Done (cond s (skipped_answer task) (present_answer task task.done))) host host) (sym c.if-is_there.false)
+    (ends_with c.report_present-else-is_there.result buffer (present_answer task task.done) host
+    (subst (λ (q : List ℕ). IfOk c.report_present-else-is_there.result (λ (v : Verdict). answer_in buffer v ≡ present_answer task q)) reported_is c.report_present-else-is_there.ensures)))

@@ -14,11 +14,11 @@ returns-then-is_into_there g c =
     let host = g.H.Host.state c.args.host.now in
     let path = c.args.path.now in
     let reason = c.reason_at-reason.result in
-    let room = c.tell_unmade.new.room in
+    let buffer = c.report_unmade.new.buffer in
     let into_is : c.deref.result.now ≡ task.setup.into = c.deref.ensures ∙ ap (λ (s : SetupView). s.into) c.setup.view_is ∙ ap (λ (t : TaskView). t.setup.into) c.self.view_is in
-    ends_after c.tell_unmade.result room (unmade_work task path) (Done (unmade_answer task path reason)) host host host
+    ends_after c.report_unmade.result buffer (unmade_work task path) (Done (unmade_answer task path reason)) host host host
     (unmade_at task path c.deref.result.now host c.is_there-is_into_there.result reason into_is c.is_there-is_into_there.ensures c.reason_at-reason.ensures c.if-is_into_there.true)
-    (ends_with c.tell_unmade.result room (unmade_answer task path reason) host c.tell_unmade.ensures)
+    (ends_with c.report_unmade.result buffer (unmade_answer task path reason) host c.report_unmade.ensures)
 
 pub returns-else-is_into_there : goal.returns-else-is_into_there
 returns-else-is_into_there g c =
@@ -26,11 +26,11 @@ returns-else-is_into_there g c =
     let host = g.H.Host.state c.args.host.now in
     let path = c.args.path.now in
     let reason = c.reason_at-reason.result in
-    let room = c.tell_unmade-else-is_into_there.new.room in
+    let buffer = c.report_unmade-else-is_into_there.new.buffer in
     let into_is : c.deref.result.now ≡ task.setup.into = c.deref.ensures ∙ ap (λ (s : SetupView). s.into) c.setup.view_is ∙ ap (λ (t : TaskView). t.setup.into) c.self.view_is in
     let same_into : c.deref-else-is_into_there.result.now ≡ task.setup.into =
     c.deref-else-is_into_there.ensures ∙ ap (λ (s : SetupView). s.into) c.setup.view_is ∙ ap (λ (t : TaskView). t.setup.into) c.self.view_is in
-    ends_after c.tell_unmade-else-is_into_there.result room (unmade_work task path) (Done (unmade_answer task task.setup.into reason)) host host host
+    ends_after c.report_unmade-else-is_into_there.result buffer (unmade_work task path) (Done (unmade_answer task task.setup.into reason)) host host host
     (unmade_below task path c.deref.result.now host c.is_there-is_into_there.result reason into_is c.is_there-is_into_there.ensures c.reason_at-reason.ensures c.if-is_into_there.false)
-    (ends_with c.tell_unmade-else-is_into_there.result room (unmade_answer task task.setup.into reason) host
-    (subst (λ (q : List ℕ). IfOk c.tell_unmade-else-is_into_there.result (λ (v : Verdict). answer_in room v ≡ unmade_answer task q reason)) same_into c.tell_unmade-else-is_into_there.ensures))
+    (ends_with c.report_unmade-else-is_into_there.result buffer (unmade_answer task task.setup.into reason) host
+    (subst (λ (q : List ℕ). IfOk c.report_unmade-else-is_into_there.result (λ (v : Verdict). answer_in buffer v ≡ unmade_answer task q reason)) same_into c.report_unmade-else-is_into_there.ensures))

@@ -12,9 +12,9 @@ returns-then-files g c =
     let task = c.args.self.now in
     let p = progress_of c.args.files.now in
     let host = g.H.Host.state c.args.host.now in
-    subst (λ (w : Work). Ends {E = Unit {0}} (Ok c.tell_unfinished.result) c.tell_unfinished.new.room w host host)
+    subst (λ (w : Work). Ends {E = Unit {0}} (Ok c.report_unfinished.result) c.report_unfinished.new.buffer w host host)
     (not_named task p c.if-files.true)
-    (ends_with {E = Unit {0}} (Ok c.tell_unfinished.result) c.tell_unfinished.new.room (unfinished_answer p) host c.tell_unfinished.ensures)
+    (ends_with {E = Unit {0}} (Ok c.report_unfinished.result) c.report_unfinished.new.buffer (unfinished_answer p) host c.report_unfinished.ensures)
 
 pub returns-then-rename : goal.returns-then-rename
 returns-then-rename g c =
@@ -27,9 +27,9 @@ returns-then-rename g c =
     let says : Says (Rename task.partial task.done) old c.rename.result now =
     subst (λ (q : List ℕ). Says (Rename task.partial q) old c.rename.result now) done_is
     (subst (λ (q : List ℕ). Says (Rename q c.deref-2.result.now) old c.rename.result now) partial_is c.rename.ensures) in
-    ends_after {E = Unit {0}} (Ok c.tell_finished.result) c.tell_finished.new.room (name_work task p) (Done (finished_answer task p)) old now now
+    ends_after {E = Unit {0}} (Ok c.report_finished.result) c.report_finished.new.buffer (name_work task p) (Done (finished_answer task p)) old now now
     (further _ (after_naming task p c.rename.result) _ old now now (renamed task p old now c.rename.result c.if-files.false says) (named task p now c.rename.result c.if-rename.true))
-    (ends_with {E = Unit {0}} (Ok c.tell_finished.result) c.tell_finished.new.room (finished_answer task p) now c.tell_finished.ensures)
+    (ends_with {E = Unit {0}} (Ok c.report_finished.result) c.report_finished.new.buffer (finished_answer task p) now c.report_finished.ensures)
 
 pub returns-else-rename : goal.returns-else-rename
 returns-else-rename g c =
@@ -43,7 +43,7 @@ returns-else-rename g c =
     let says : Says (Rename task.partial task.done) old c.rename.result now =
     subst (λ (q : List ℕ). Says (Rename task.partial q) old c.rename.result now) done_is
     (subst (λ (q : List ℕ). Says (Rename q c.deref-2.result.now) old c.rename.result now) partial_is c.rename.ensures) in
-    ends_after c.tell_unnamed.result c.tell_unnamed.new.room (name_work task p) (Done (unnamed_answer task p reason)) old now now
+    ends_after c.report_unnamed.result c.report_unnamed.new.buffer (name_work task p) (Done (unnamed_answer task p reason)) old now now
     (further _ (after_naming task p c.rename.result) _ old now now (renamed task p old now c.rename.result c.if-files.false says)
     (unnamed task p now c.rename.result reason c.if-rename.false c.reason_at-reason.ensures))
-    (ends_with c.tell_unnamed.result c.tell_unnamed.new.room (unnamed_answer task p reason) now c.tell_unnamed.ensures)
+    (ends_with c.report_unnamed.result c.report_unnamed.new.buffer (unnamed_answer task p reason) now c.report_unnamed.ensures)

@@ -17,13 +17,13 @@ returns-in-Some g c =
     let folders = texts c.args.folders.now in
     let old = g.H.Host.state c.args.host.now in
     let now = g.H.Host.state c.have_folders.new.host in
-    let room = c.end_unmade.new.room in
+    let buffer = c.end_unmade.new.buffer in
     let path = string_bytes c.in-Some.path in
     let start_is : string_bytes c.in_ok-start.start ≡ path_inside task.setup.into =
     c.in_ok-start.ensures
     ∙ ap path_inside (c.deref.ensures ∙ ap (λ (s : SetupView). s.into) c.setup.view_is ∙ ap (λ (t : TaskView). t.setup.into) c.self.view_is) in
-    ends_after c.end_unmade.result room (folders_work (folder_after task) (path_inside task.setup.into) folders) (unmade_work task path) old now now
+    ends_after c.end_unmade.result buffer (folders_work (folder_after task) (path_inside task.setup.into) folders) (unmade_work task path) old now now
     (subst (λ (s : List ℕ). LeadsTo (folders_work (folder_after task) s folders) old (unmade_work task path) now) start_is
     (subst (λ (o : Option (String Global)). LeadsTo (folders_work (folder_after task) (string_bytes c.in_ok-start.start) folders) old (folder_after task (option_map string_bytes o)) now) c.in-Some.is
     (c.in_ok-path.ensures (folder_after task))))
-    (subst (λ (q : List ℕ). Ends c.end_unmade.result room (unmade_work task q) now now) c.deref-in-Some.ensures c.end_unmade.ensures)
+    (subst (λ (q : List ℕ). Ends c.end_unmade.result buffer (unmade_work task q) now now) c.deref-in-Some.ensures c.end_unmade.ensures)

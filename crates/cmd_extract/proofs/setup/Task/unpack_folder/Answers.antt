@@ -16,12 +16,12 @@ returns-then-not-make_folder g c =
     let task = c.args.self.now in
     let old = g.H.Host.state c.args.host.now in
     let now = g.H.Host.state c.make_folder.new.host in
-    let room = c.end_unmade.new.room in
+    let buffer = c.end_unmade.new.buffer in
     let path_is : c.deref.result.now ≡ task.partial = c.deref.ensures ∙ ap (λ (t : TaskView). t.partial) c.self.view_is in
-    let told_is : c.deref-then-not-make_folder.result.now ≡ task.partial = c.deref-then-not-make_folder.ensures ∙ ap (λ (t : TaskView). t.partial) c.self.view_is in
-    ends_after c.end_unmade.result room (folder_work task) (unmade_work task task.partial) old now now
+    let reported_is : c.deref-then-not-make_folder.result.now ≡ task.partial = c.deref-then-not-make_folder.ensures ∙ ap (λ (t : TaskView). t.partial) c.self.view_is in
+    ends_after c.end_unmade.result buffer (folder_work task) (unmade_work task task.partial) old now now
     (not_made task c.deref.result.now old now c.make_folder.result path_is c.make_folder.ensures c.if-not-make_folder.true)
-    (subst (λ (q : List ℕ). Ends c.end_unmade.result room (unmade_work task q) now now) told_is c.end_unmade.ensures)
+    (subst (λ (q : List ℕ). Ends c.end_unmade.result buffer (unmade_work task q) now now) reported_is c.end_unmade.ensures)
 
 pub returns-in_err-unpack_files : goal.returns-in_err-unpack_files
 returns-in_err-unpack_files g c =
@@ -62,7 +62,7 @@ returns g c =
     let r = progress_of c.put_lines.new.self in
     let path_is : c.deref.result.now ≡ task.partial = c.deref.ensures ∙ ap (λ (t : TaskView). t.partial) c.self.view_is in
     let whole = files_work task (rows (files_and task.setup.form.leftovers) task.dump) (first_progress task) in
-    ends_after c.name_folder.result c.name_folder.new.room (folder_work task) (name_work task r) old put (g.H.Host.state c.name_folder.new.host)
+    ends_after c.name_folder.result c.name_folder.new.buffer (folder_work task) (name_work task r) old put (g.H.Host.state c.name_folder.new.host)
     (further (folder_work task) whole (name_work task r) old mid put
     (made task c.deref.result.now old mid c.make_folder.result path_is c.make_folder.ensures c.if-not-make_folder.false)
     (further whole (files_work task [] p) (name_work task r) mid now put c.in_ok-unpack_files.ensures

@@ -36,7 +36,7 @@ returns-clause-done g c =
     c.in_ok-partial.ensures ∙ ap (λ (i : List ℕ). place_below (path_inside i) folders ++ unfinished_name last) partial_into
     ∙ ap (λ (fs : List (List ℕ)). place_below (path_inside setup.into) fs ++ unfinished_name last) c.in_ok-place.ensures.folders
     ∙ ap (λ (l : List ℕ). place_below (path_inside setup.into) (folders_of name) ++ unfinished_name l) c.in_ok-place.ensures.last in
-    subst (λ (w : Work). Ends c.unpack.result c.unpack.new.room w (g.H.Host.state c.args.host.now) (g.H.Host.state c.unpack.new.host))
+    subst (λ (w : Work). Ends c.unpack.result c.unpack.new.buffer w (g.H.Host.state c.args.host.now) (g.H.Host.state c.unpack.new.host))
     (task_made setup _ name c.args.self.now.dump c.in_ok-all.all (string_bytes c.in_ok-done.done) (string_bytes c.in_ok-partial.partial) (texts c.as_slice.result.now) (ap (λ (u : Unpacker). u.setup) c.self.view_is)
     (c.in_ok-all.ensures ∙ ap (λ (u : Unpacker). u.dump) c.self.view_is) is_done
     is_partial (ap texts c.as_slice.ensures.value ∙ c.in_ok-place.ensures.folders)) c.unpack.ensures

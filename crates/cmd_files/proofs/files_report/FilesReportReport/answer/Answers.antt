@@ -7,12 +7,12 @@ use Rattle.cmd_files.proofs.files_report.FilesReportReport.answer.Goals as goal
 
 pub returns-in-Ok-clause-answered : goal.returns-in-Ok-clause-answered
 returns-in-Ok-clause-answered c =
-    answered_by c.tell_dump.result _ _ c.args.name.now c.in-Some.bytes.now _ _ (search rules)
+    answered_by c.report_dump.result _ _ c.args.name.now c.in-Some.bytes.now _ _ (search rules)
     c.in-Ok.ensures.filled
-    (c.tell_dump.ensures.answered c.clear.ensures.printed c.clear.ensures.complaint c.in-Some.bytes.now)
+    (c.report_dump.ensures.answered c.clear.ensures.printed c.clear.ensures.complaint c.in-Some.bytes.now)
 
 pub returns-in-Err-WrongLength-clause-answered : goal.returns-in-Err-WrongLength-clause-answered
 returns-in-Err-WrongLength-clause-answered c =
-    answered_by c.tell_wrong_length.result _ _ c.args.name.now c.in-Some.bytes.now _ _ (search rules)
+    answered_by c.report_wrong_length.result _ _ c.args.name.now c.in-Some.bytes.now _ _ (search rules)
     ((no_part _ _ _ _ (ap (λ (f : DumpFault). wrong_length {A = Unit {0}} (Err f)) c.in-Err-WrongLength.field-0-is) c.in-Err-WrongLength.ensures.refused))
-    (c.tell_wrong_length.ensures.answered c.clear.ensures.printed c.clear.ensures.complaint)
+    (c.report_wrong_length.ensures.answered c.clear.ensures.printed c.clear.ensures.complaint)

@@ -7,9 +7,9 @@ use Rattle.cmd_map.proofs.map_report.MapReportReport.answer.Goals as goal
 
 pub returns-in-Ok-clause-answered : goal.returns-in-Ok-clause-answered
 returns-in-Ok-clause-answered c =
-    answered_dump c.tell_dump.result _ _ c.args.name.now c.in-Some.bytes.now _ _ (search rules)
+    answered_dump c.report_dump.result _ _ c.args.name.now c.in-Some.bytes.now _ _ (search rules)
     c.in-Ok.ensures.filled
-    (c.tell_dump.ensures.answered c.clear.ensures.printed c.clear.ensures.complaint)
+    (c.report_dump.ensures.answered c.clear.ensures.printed c.clear.ensures.complaint)
 
 pub returns-in_ok-wrong_length_line-in-Err-WrongLength-clause-answered : goal.returns-in_ok-wrong_length_line-in-Err-WrongLength-clause-answered
 returns-in_ok-wrong_length_line-in-Err-WrongLength-clause-answered c =

@@ -4,9 +4,9 @@ use Rattle.cmd_shell.specs.Beginnings.{home_of, source_by}
 use Rattle.program_exit.specs.Outside.{Outside, outside_at}
 use Rattle.cmd_shell.specs.ShellRuns.{StoppedBy}
 use Rattle.program_exit.specs.Faults.{fault_of_run}
-use Rattle.cmd_shell.specs.Scripts.{beginning_in, manner_in, source_in}
+use Rattle.cmd_shell.specs.Scripts.{beginning_in, options_in, source_in}
 use Rattle.program_exit.proofs.Results.{IfErr-of_error}
-use Rattle.cmd_shell.proofs.ShellRuns.{home_is, RanShell-flushed, told_of-write}
+use Rattle.cmd_shell.proofs.ShellRuns.{home_is, RanShell-flushed, reported_of-write}
 use Rattle.cmd_shell.proofs.shell_job.ShellJob.run.Goals as goal
 
 -- to its end
@@ -15,17 +15,17 @@ returns-in-Ok-clause-ran g c =
     let job = c.args.self in
     let home : c.unwrap_or.result.now ≡ home_of (option_copied job.image) =
     ap (λ text. text.now) c.unwrap_or.ensures ∙ home_is job.image _ (search rules) in
-    let manner : record { home = c.unwrap_or.result.now; refusals = job.refusals } ≡ manner_in job =
+    let options : record { home = c.unwrap_or.result.now; refusals = job.refusals } ≡ options_in job =
     ap (λ h. record { home = h; refusals = job.refusals }) home in
     let source : source_by (option_copied c.as_deref.result) ≡ source_in job = search rules in
     let old : Outside = outside_at g.R.Read.remaining c.args.input.now g.W.Write.contents c.args.output.now g.H.Host.state c.args.host.now in
     let new : Outside = outside_at g.R.Read.remaining c.run-ran.new.input g.W.Write.contents c.flush.new.self g.H.Host.state c.run-ran.new.host in
     let is : c.run-ran.result ≡ Ok c.in_ok-ran-in-Ok.field-0 = search rules in
     RanShell-flushed old new (Ok c.in_ok-ran-in-Ok.field-0) (beginning_in job) (source_in job) (source_by (option_copied c.as_deref.result))
-    (manner_in job) (record { home = c.unwrap_or.result.now; refusals = job.refusals })
+    (options_in job) (record { home = c.unwrap_or.result.now; refusals = job.refusals })
     (g.H.Host.state c.first_session.new.host)
     c.in_ok-session.session c.run-ran.new.session (g.W.Write.contents c.run-ran.new.output.writer.now)
-    c.in_ok-session.ensures.session source manner (rw is at c.run-ran.ensures.ran) c.flush.ensures.kept
+    c.in_ok-session.ensures.session source options (rw is at c.run-ran.ensures.ran) c.flush.ensures.kept
 
 -- up to a fault
 pub returns-in_err-ran-in-Ok-clause-stopped : goal.returns-in_err-ran-in-Ok-clause-stopped
@@ -33,19 +33,19 @@ returns-in_err-ran-in-Ok-clause-stopped g c =
     let job = c.args.self in
     let home : c.unwrap_or.result.now ≡ home_of (option_copied job.image) =
     ap (λ text. text.now) c.unwrap_or.ensures ∙ home_is job.image _ (search rules) in
-    let manner : record { home = c.unwrap_or.result.now; refusals = job.refusals } ≡ manner_in job =
+    let options : record { home = c.unwrap_or.result.now; refusals = job.refusals } ≡ options_in job =
     ap (λ h. record { home = h; refusals = job.refusals }) home in
     let source : source_by (option_copied c.as_deref.result) ≡ source_in job = search rules in
     let old : Outside = outside_at g.R.Read.remaining c.args.input.now g.W.Write.contents c.args.output.now g.H.Host.state c.args.host.now in
     let new : Outside = outside_at g.R.Read.remaining c.run-ran.new.input g.W.Write.contents c.flush.new.self g.H.Host.state c.run-ran.new.host in
     let is : c.run-ran.result ≡ Err c.in_err-ran-in-Ok.field-0.0 = search rules in
     let ran = RanShell-flushed old new (Err c.in_err-ran-in-Ok.field-0.0) (beginning_in job) (source_in job) (source_by (option_copied c.as_deref.result))
-    (manner_in job) (record { home = c.unwrap_or.result.now; refusals = job.refusals })
+    (options_in job) (record { home = c.unwrap_or.result.now; refusals = job.refusals })
     (g.H.Host.state c.first_session.new.host)
     c.in_ok-session.session c.run-ran.new.session (g.W.Write.contents c.run-ran.new.output.writer.now)
-    c.in_ok-session.ensures.session source manner (rw is at c.run-ran.ensures.ran) c.flush.ensures.kept in
+    c.in_ok-session.ensures.session source options (rw is at c.run-ran.ensures.ran) c.flush.ensures.kept in
     IfErr-of_error c.from_residual-in_err-ran-in-Ok.result (fault_of_run c.in_err-ran-in-Ok.field-0.0)
-    (λ fault. StoppedBy fault (beginning_in job) (source_in job) (manner_in job) old new)
+    (λ fault. StoppedBy fault (beginning_in job) (source_in job) (options_in job) old new)
     c.from_residual-in_err-ran-in-Ok.ensures.1 (inr (inr (Err c.in_err-ran-in-Ok.field-0.0, ran, inl refl)))
 
 -- and the flush failed
@@ -54,7 +54,7 @@ returns-clause-stopped g c =
     let job = c.args.self in
     let home : c.unwrap_or.result.now ≡ home_of (option_copied job.image) =
     ap (λ text. text.now) c.unwrap_or.ensures ∙ home_is job.image _ (search rules) in
-    let manner : record { home = c.unwrap_or.result.now; refusals = job.refusals } ≡ manner_in job =
+    let options : record { home = c.unwrap_or.result.now; refusals = job.refusals } ≡ options_in job =
     ap (λ h. record { home = h; refusals = job.refusals }) home in
     let source : source_by (option_copied c.as_deref.result) ≡ source_in job = search rules in
     let old : Outside = outside_at g.R.Read.remaining c.args.input.now g.W.Write.contents c.args.output.now g.H.Host.state c.args.host.now in
@@ -62,9 +62,9 @@ returns-clause-stopped g c =
     inr (inr (
       c.run-ran.result,
       RanShell-flushed old new c.run-ran.result (beginning_in job) (source_in job) (source_by (option_copied c.as_deref.result))
-          (manner_in job) (record { home = c.unwrap_or.result.now; refusals = job.refusals })
+          (options_in job) (record { home = c.unwrap_or.result.now; refusals = job.refusals })
           (g.H.Host.state c.first_session.new.host)
           c.in_ok-session.session c.run-ran.new.session (g.W.Write.contents c.run-ran.new.output.writer.now)
-          c.in_ok-session.ensures.session source manner c.run-ran.ensures.ran c.flush.ensures.kept,
-      told_of-write c.run-ran.result,
+          c.in_ok-session.ensures.session source options c.run-ran.ensures.ran c.flush.ensures.kept,
+      reported_of-write c.run-ran.result,
     ))

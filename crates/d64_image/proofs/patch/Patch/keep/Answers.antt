@@ -9,18 +9,18 @@ use Rattle.d64_image.proofs.patch.Patch.keep.Goals as goal
 -- the block is added in its place
 pub returns-clause-kept : goal.returns-clause-kept
 returns-clause-kept c =
-    let old : c.make_room.new.kept.items ≡ c.args.self.now = c.make_room.ensures.same ∙ c.self.view_is in
+    let old : c.reserve_next.new.kept.items ≡ c.args.self.now = c.reserve_next.ensures.same ∙ c.self.view_is in
     let place = c.place_of-place.ensures.place ∙ ap (λ (k : Kept). count_by (λ x. nat_lt x.0 c.args.block) k) old in
-    let inserted : c.insert.new.self.items ≡ insert c.make_room.new.kept.items c.place_of-place.result (c.args.block, c.args.bytes.now) = rw c.unwrap.ensures at c.insert.ensures.items in
+    let inserted : c.insert.new.self.items ≡ insert c.reserve_next.new.kept.items c.place_of-place.result (c.args.block, c.args.bytes.now) = rw c.unwrap.ensures at c.insert.ensures.items in
     inserted ∙ ap₂ (λ (k : Kept) (n : ℕ). insert k n (c.args.block, c.args.bytes.now)) old place
     ∙ sym (with_kept-new c.args.self.now c.args.block c.args.bytes.now c.requires)
 
 -- the blocks stay ascending
 pub invariant_of-self-3 : goal.invariant_of-self-3
 invariant_of-self-3 c =
-    let old : c.make_room.new.kept.items ≡ c.args.self.now = c.make_room.ensures.same ∙ c.self.view_is in
+    let old : c.reserve_next.new.kept.items ≡ c.args.self.now = c.reserve_next.ensures.same ∙ c.self.view_is in
     let place = c.place_of-place.ensures.place ∙ ap (λ (k : Kept). count_by (λ x. nat_lt x.0 c.args.block) k) old in
-    let inserted : c.insert.new.self.items ≡ insert c.make_room.new.kept.items c.place_of-place.result (c.args.block, c.args.bytes.now) = rw c.unwrap.ensures at c.insert.ensures.items in
+    let inserted : c.insert.new.self.items ≡ insert c.reserve_next.new.kept.items c.place_of-place.result (c.args.block, c.args.bytes.now) = rw c.unwrap.ensures at c.insert.ensures.items in
     let is = inserted ∙ ap (λ (k : Kept). insert k c.place_of-place.result (c.args.block, c.args.bytes.now)) old in (
       subst IsPatch (sym is)
           (rises-insert c.args.self.now 0 BLOCKS c.args.block c.place_of-place.result c.args.bytes.now (subst IsPatch c.self.view_is c.self.invariant.0)

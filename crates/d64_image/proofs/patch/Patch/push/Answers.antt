@@ -10,7 +10,7 @@ pub invariant_of-self-2 : goal.invariant_of-self-2
 invariant_of-self-2 c =
     let kept = c.self.inside.kept.items in
     let block = c.args.block in
-    let room = c.in_ok-make_room.ensures.same in
+    let room = c.in_ok-reserve_next.ensures.same in
     let pushed = rw c.unwrap.ensures at c.push.ensures.items in
     let all : c.push.new.self.items ≡ kept ++ (block, c.args.bytes.now) ∷ [] = cc in
     let legal : block < BLOCKS = c.known_block.ensures in (

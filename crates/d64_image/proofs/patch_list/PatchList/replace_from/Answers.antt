@@ -21,8 +21,8 @@ copy_within-requires-clause-dest_in_bounds c =
     let b = before c.self.inside.lens.items c.self.inside.blocks.items c.args.self.now c.args.place.number c.args.place.blocks c.self.invariant c.self.view_is c.requires.place in
     let place = b.1 in
     let end = c.len-end.ensures in
-    let long : vec_len c.make_first_room.new.blocks ≡ length c.make_first_room.new.blocks.items = search rules in
-    let same : length c.make_first_room.new.blocks.items ≡ length c.self.inside.blocks.items = ap length c.make_first_room.ensures.same in
+    let long : vec_len c.reserve_first.new.blocks ≡ length c.reserve_first.new.blocks.items = search rules in
+    let same : length c.reserve_first.new.blocks.items ≡ length c.self.inside.blocks.items = ap length c.reserve_first.ensures.same in
     let more = c.in_ok-extend_from_slice.ensures.len in
     omega arith
 

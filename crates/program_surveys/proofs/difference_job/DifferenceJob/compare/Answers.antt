@@ -15,22 +15,22 @@ returns-in_err-verdict-clause-compared g c =
     wants_memory _ _ _ _ _ _ _ _ _ c.from_residual-in_err-verdict.result c.in_ok-old.ensures.read c.in_ok-new.ensures.read (search rules)
 
 -- the output failed
-pub returns-in_err-tell-clause-compared : goal.returns-in_err-tell-clause-compared
-returns-in_err-tell-clause-compared g c =
-    let said : Answer = record { printed = c.answer.new.room.printed.items; complaint = c.answer.new.room.complaint.items; verdict = c.in_ok-verdict.verdict } in
+pub returns-in_err-report_result-clause-compared : goal.returns-in_err-report_result-clause-compared
+returns-in_err-report_result-clause-compared g c =
+    let said : Answer = record { printed = c.answer.new.buffer.printed.items; complaint = c.answer.new.buffer.complaint.items; verdict = c.in_ok-verdict.verdict } in
     let old = contents_by (λ bytes. bytes.items) c.in_ok-old.old in
     let new = contents_by (λ bytes. bytes.items) c.in_ok-new.new in
     let form : c.in_ok-report.report.form ≡ c.args.self.now.form = search rules in
     let same : said ≡ difference_rule c.in_ok-report.report.form c.args.self.now.old.now old c.args.self.now.new.now new =
     same_answer (difference_rule c.in_ok-report.report.form) said _ c.args.self.now.old.now _ old _ c.args.self.now.new.now _ new c.in_ok-verdict.ensures.answered
     (search rules) (search rules) (search rules) (search rules) in
-    was_cut _ _ _ _ _ _ _ _ _ _ said c.from_residual-in_err-tell.result c.in_ok-old.ensures.read c.in_ok-new.ensures.read
-    (same ∙ ap (λ form. difference_rule form c.args.self.now.old.now old c.args.self.now.new.now new) form) c.in_err-tell.ensures.told (search rules)
+    was_cut _ _ _ _ _ _ _ _ _ _ said c.from_residual-in_err-report_result.result c.in_ok-old.ensures.read c.in_ok-new.ensures.read
+    (same ∙ ap (λ form. difference_rule form c.args.self.now.old.now old c.args.self.now.new.now new) form) c.in_err-report_result.ensures.reported (search rules)
 
 -- the result is written
 pub returns-clause-compared : goal.returns-clause-compared
 returns-clause-compared g c =
-    let said : Answer = record { printed = c.answer.new.room.printed.items; complaint = c.answer.new.room.complaint.items; verdict = c.in_ok-verdict.verdict } in
+    let said : Answer = record { printed = c.answer.new.buffer.printed.items; complaint = c.answer.new.buffer.complaint.items; verdict = c.in_ok-verdict.verdict } in
     let old = contents_by (λ bytes. bytes.items) c.in_ok-old.old in
     let new = contents_by (λ bytes. bytes.items) c.in_ok-new.new in
     let form : c.in_ok-report.report.form ≡ c.args.self.now.form = search rules in
@@ -38,4 +38,4 @@ returns-clause-compared g c =
     same_answer (difference_rule c.in_ok-report.report.form) said _ c.args.self.now.old.now _ old _ c.args.self.now.new.now _ new c.in_ok-verdict.ensures.answered
     (search rules) (search rules) (search rules) (search rules) in
     compared _ _ _ _ _ _ _ _ _ _ said c.in_ok-old.ensures.read c.in_ok-new.ensures.read
-    (same ∙ ap (λ form. difference_rule form c.args.self.now.old.now old c.args.self.now.new.now new) form) c.in_ok-tell.ensures.told
+    (same ∙ ap (λ form. difference_rule form c.args.self.now.old.now old c.args.self.now.new.now new) form) c.in_ok-report_result.ensures.reported

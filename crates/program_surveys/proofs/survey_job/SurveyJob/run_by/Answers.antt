@@ -3,4 +3,4 @@ use Rattle.program_surveys.proofs.survey_job.SurveyJob.run_by.Goals as goal
 
 -- there was no memory for a report
 pub returns-in-Err-clause-ended : goal.returns-in-Err-clause-ended
-returns-in-Err-clause-ended g c = λ manner heading made. not_begun (g.C.Clerk.conduct manner) heading _ _ _ _ _ c.report_on.ensures.reported
+returns-in-Err-clause-ended g c = λ options heading made. not_begun (g.C.FileTask.effects options) heading _ _ _ _ _ c.report_on.ensures.reported

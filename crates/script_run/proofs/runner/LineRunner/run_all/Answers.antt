@@ -1,7 +1,7 @@
 use Rattle.std.proofs.Common.{◌+◌, ◌<◌, [], ◌++◌, take, drop, ap, ◌∙◌, length-append, take_all, arith, rules}
 use Rattle.std.proofs.KnownBytes.{Consumes-kept, Consumes-nil, Consumes-trans}
 use Rattle.script_text.specs.Script.{script_limit}
-use Rattle.script_run.specs.Runner.{manner_of}
+use Rattle.script_run.specs.Runner.{options_of}
 use Rattle.script_run.proofs.LinesSoFar.{ScriptHasCome-none}
 use Rattle.script_run.proofs.RunEnds.{Consumes-fits, Consumes-none, Consumes-read, EndsWith-last, ScriptHasCome-flushed, Ran-ended, RanRead-by, RanUpTo-by, RanUpTo-flush, RanWhole-by, length-read, take_limit}
 use Rattle.script_run.proofs.PieceSteps.{has_closed, has_come}
@@ -12,7 +12,7 @@ loop-init g c = record {
   bytes = [];
   lost = Consumes-nil (g.R.Read.remaining c.args.input.now.reader.now);
   within = omega arith;
-  came = ScriptHasCome-none (manner_of c.args.self.manner) _ c.args.state.now.tally c.args.state.now.line c.requires.tally c.requires.line;
+  came = ScriptHasCome-none (options_of c.args.self.options) _ c.args.state.now.tally c.args.state.now.line c.requires.tally c.requires.line;
   few = omega (arith, ap (λ t. t.outcome.accepted) c.requires.tally, ap (λ t. t.outcome.refused) c.requires.tally);
   lent = search rules;
   same_input = search rules;
@@ -21,43 +21,43 @@ loop-init g c = record {
   came_bytes = search rules;
   read = search rules;
   written = search rules;
-  heard = search rules;
+  observed = search rules;
 }
 
 pub returns-in_default-clause-ran : goal.returns-in_default-clause-ran
 returns-in_default-clause-ran g c =
     let i = c.loop.invariant in
-    let some : 0 < c.loop.state.tally.outcome.accepted + c.loop.state.tally.outcome.refused = i.heard c.in_default.ensures.some in
-    RanUpTo-flush (manner_of c.args.self.manner) (g.R.Read.remaining c.args.input.now.reader.now) (g.R.Read.remaining c.loop.input.reader.now) _ _ c.loop.state.tally c.loop.state.line i.bytes _ i.lost i.came
+    let some : 0 < c.loop.state.tally.outcome.accepted + c.loop.state.tally.outcome.refused = i.observed c.in_default.ensures.some in
+    RanUpTo-flush (options_of c.args.self.options) (g.R.Read.remaining c.args.input.now.reader.now) (g.R.Read.remaining c.loop.input.reader.now) _ _ c.loop.state.tally c.loop.state.line i.bytes _ i.lost i.came
     c.deliver.ensures.kept some
 
 pub returns-in-Ok-eq0-clause-ran : goal.returns-in-Ok-eq0-clause-ran
 returns-in-Ok-eq0-clause-ran g c =
     let i = c.loop.invariant in
-    let come = ScriptHasCome-flushed (manner_of c.args.self.manner) _ _ c.loop.state.tally c.loop.state.line i.bytes _ i.came c.deliver.ensures.kept in
+    let come = ScriptHasCome-flushed (options_of c.args.self.options) _ _ c.loop.state.tally c.loop.state.line i.bytes _ i.came c.deliver.ensures.kept in
     let read = c.in-Ok-eq0.ensures.bytes in
-    Ran-ended (manner_of c.args.self.manner) (g.R.Read.remaining c.args.input.now.reader.now) (g.R.Read.remaining c.read_after.new.self.reader.now) _ _ i.bytes c.run_last.result
+    Ran-ended (options_of c.args.self.options) (g.R.Read.remaining c.args.input.now.reader.now) (g.R.Read.remaining c.read_after.new.self.reader.now) _ _ i.bytes c.run_last.result
     (Consumes-none _ _ _ i.bytes c.read_after.new.buffer c.in-Ok-eq0.field-0 i.lost read.0 c.in-Ok-eq0.field-0-test)
     (read.1 c.in-Ok-eq0.field-0-test (search rules)) (c.run_last.ensures.ended _ i.bytes come)
 
 pub returns-in-Ok-eq0-clause-streams : goal.returns-in-Ok-eq0-clause-streams
 returns-in-Ok-eq0-clause-streams g c =
     let i = c.loop.invariant in
-    let come = ScriptHasCome-flushed (manner_of c.args.self.manner) _ _ c.loop.state.tally c.loop.state.line i.bytes _ i.came c.deliver.ensures.kept in
-    EndsWith-last (manner_of c.args.self.manner) _ _ i.bytes c.run_last.result _ _ _ (c.run_last.ensures.ended _ i.bytes come)
+    let come = ScriptHasCome-flushed (options_of c.args.self.options) _ _ c.loop.state.tally c.loop.state.line i.bytes _ i.came c.deliver.ensures.kept in
+    EndsWith-last (options_of c.args.self.options) _ _ i.bytes c.run_last.result _ _ _ (c.run_last.ensures.ended _ i.bytes come)
     c.in-Ok-eq0.ensures.failed (c.in-Ok.ensures.failed ∙ i.written) c.run_last.ensures.failed
 
 pub returns-in-Err-clause-ran : goal.returns-in-Err-clause-ran
 returns-in-Err-clause-ran g c =
     let i = c.loop.invariant in
-    let come = ScriptHasCome-flushed (manner_of c.args.self.manner) _ _ c.loop.state.tally c.loop.state.line i.bytes _ i.came c.deliver.ensures.kept in
-    RanRead-by (manner_of c.args.self.manner) (g.R.Read.remaining c.args.input.now.reader.now) (g.R.Read.remaining c.read_after.new.self.reader.now) _ _ c.loop.state.tally c.loop.state.line i.bytes i.bytes
+    let come = ScriptHasCome-flushed (options_of c.args.self.options) _ _ c.loop.state.tally c.loop.state.line i.bytes _ i.came c.deliver.ensures.kept in
+    RanRead-by (options_of c.args.self.options) (g.R.Read.remaining c.args.input.now.reader.now) (g.R.Read.remaining c.read_after.new.self.reader.now) _ _ c.loop.state.tally c.loop.state.line i.bytes i.bytes
     (Consumes-kept _ _ _ _ i.lost c.in-Err.ensures.bytes) (take_all script_limit i.bytes (omega (arith, i.within))) come
 
 pub returns-clause-ran : goal.returns-clause-ran
 returns-clause-ran g c =
     let i = c.loop.invariant in
-    RanRead-by (manner_of c.args.self.manner) (g.R.Read.remaining c.args.input.now.reader.now) (g.R.Read.remaining c.loop.input.reader.now) _ _ c.loop.state.tally c.loop.state.line i.bytes i.bytes
+    RanRead-by (options_of c.args.self.options) (g.R.Read.remaining c.args.input.now.reader.now) (g.R.Read.remaining c.loop.input.reader.now) _ _ c.loop.state.tally c.loop.state.line i.bytes i.bytes
     i.lost (take_all script_limit i.bytes (omega (arith, i.within))) i.came
 
 pub returns-in_default-run_piece-clause-ran : goal.returns-in_default-run_piece-clause-ran
@@ -66,9 +66,9 @@ returns-in_default-run_piece-clause-ran g c =
     let buffer = c.read_after.new.buffer in
     let count = c.in-Ok-read_after.count in
     let least = c.min.result in
-    let come = ScriptHasCome-flushed (manner_of c.args.self.manner) _ _ c.loop.state.tally c.loop.state.line i.bytes _ i.came c.deliver.ensures.kept in
+    let come = ScriptHasCome-flushed (options_of c.args.self.options) _ _ c.loop.state.tally c.loop.state.line i.bytes _ i.came c.deliver.ensures.kept in
     let lost = Consumes-read _ _ _ i.bytes buffer count least c.loop.room i.lost c.in-Ok-read_after.ensures.bytes.0 c.min.ensures in
-    RanUpTo-by (manner_of c.args.self.manner) (g.R.Read.remaining c.args.input.now.reader.now) (g.R.Read.remaining c.read_after.new.self.reader.now) _ _
+    RanUpTo-by (options_of c.args.self.options) (g.R.Read.remaining c.args.input.now.reader.now) (g.R.Read.remaining c.read_after.new.self.reader.now) _ _
     (i.bytes ++ take least buffer) (drop least (take count buffer)) lost (c.in_default-run_piece.ensures.stopped _ i.bytes come)
 
 pub returns-then-state-clause-ran : goal.returns-then-state-clause-ran
@@ -77,10 +77,10 @@ returns-then-state-clause-ran g c =
     let buffer = c.read_after.new.buffer in
     let count = c.in-Ok-read_after.count in
     let least = c.min.result in
-    let come = ScriptHasCome-flushed (manner_of c.args.self.manner) _ _ c.loop.state.tally c.loop.state.line i.bytes _ i.came c.deliver.ensures.kept in
+    let come = ScriptHasCome-flushed (options_of c.args.self.options) _ _ c.loop.state.tally c.loop.state.line i.bytes _ i.came c.deliver.ensures.kept in
     let lost = Consumes-read _ _ _ i.bytes buffer count least c.loop.room i.lost c.in-Ok-read_after.ensures.bytes.0 c.min.ensures in
-    let closed = has_closed (manner_of c.args.self.manner) _ _ c.run_piece.new.state.tally c.run_piece.new.state.line _ c.if-state.true (c.in-Ok-run_piece.ensures.came _ i.bytes come) in
-    RanWhole-by (manner_of c.args.self.manner) (g.R.Read.remaining c.args.input.now.reader.now) (g.R.Read.remaining c.read_after.new.self.reader.now) _ _ c.run_piece.new.state.tally
+    let closed = has_closed (options_of c.args.self.options) _ _ c.run_piece.new.state.tally c.run_piece.new.state.line _ c.if-state.true (c.in-Ok-run_piece.ensures.came _ i.bytes come) in
+    RanWhole-by (options_of c.args.self.options) (g.R.Read.remaining c.args.input.now.reader.now) (g.R.Read.remaining c.read_after.new.self.reader.now) _ _ c.run_piece.new.state.tally
     (i.bytes ++ take least buffer) (drop least (take count buffer)) lost closed
 
 pub returns-then-count-room-clause-ran : goal.returns-then-count-room-clause-ran
@@ -89,9 +89,9 @@ returns-then-count-room-clause-ran g c =
     let buffer = c.read_after.new.buffer in
     let count = c.in-Ok-read_after.count in
     let least = c.min.result in
-    let come = ScriptHasCome-flushed (manner_of c.args.self.manner) _ _ c.loop.state.tally c.loop.state.line i.bytes _ i.came c.deliver.ensures.kept in
-    let comes = has_come (manner_of c.args.self.manner) _ _ c.run_piece.new.state.tally c.run_piece.new.state.line _ c.if-state.false (c.in-Ok-run_piece.ensures.came _ i.bytes come) in
-    RanRead-by (manner_of c.args.self.manner) (g.R.Read.remaining c.args.input.now.reader.now) (g.R.Read.remaining c.read_after.new.self.reader.now) _ _ c.run_piece.new.state.tally c.run_piece.new.state.line
+    let come = ScriptHasCome-flushed (options_of c.args.self.options) _ _ c.loop.state.tally c.loop.state.line i.bytes _ i.came c.deliver.ensures.kept in
+    let comes = has_come (options_of c.args.self.options) _ _ c.run_piece.new.state.tally c.run_piece.new.state.line _ c.if-state.false (c.in-Ok-run_piece.ensures.came _ i.bytes come) in
+    RanRead-by (options_of c.args.self.options) (g.R.Read.remaining c.args.input.now.reader.now) (g.R.Read.remaining c.read_after.new.self.reader.now) _ _ c.run_piece.new.state.tally c.run_piece.new.state.line
     (i.bytes ++ take least buffer) (i.bytes ++ take count buffer) (Consumes-trans _ _ _ i.bytes (take count buffer) i.lost c.in-Ok-read_after.ensures.bytes.0)
     (take_limit i.bytes buffer count least c.loop.room i.within c.if-count-room.true c.min.ensures) comes
 
@@ -101,12 +101,12 @@ loop-preserved g c =
     let buffer = c.read_after.new.buffer in
     let count = c.in-Ok-read_after.count in
     let least = c.min.result in
-    let come = ScriptHasCome-flushed (manner_of c.args.self.manner) _ _ c.loop.state.tally c.loop.state.line i.bytes _ i.came c.deliver.ensures.kept in
+    let come = ScriptHasCome-flushed (options_of c.args.self.options) _ _ c.loop.state.tally c.loop.state.line i.bytes _ i.came c.deliver.ensures.kept in
     record {
       bytes = i.bytes ++ take least buffer;
       lost = Consumes-fits _ _ _ i.bytes buffer count least c.loop.room i.lost c.in-Ok-read_after.ensures.bytes.0 c.if-count-room.false c.min.ensures;
       within = length-read i.bytes buffer count least c.loop.room i.within c.in-Ok-read_after.ensures.bound.0 c.if-count-room.false c.min.ensures;
-      came = has_come (manner_of c.args.self.manner) _ _ c.run_piece.new.state.tally c.run_piece.new.state.line _ c.if-state.false (c.in-Ok-run_piece.ensures.came _ i.bytes come);
+      came = has_come (options_of c.args.self.options) _ _ c.run_piece.new.state.tally c.run_piece.new.state.line _ c.if-state.false (c.in-Ok-run_piece.ensures.came _ i.bytes come);
       few = omega (arith, i.few, c.run_piece.ensures.few, length-append i.bytes (take least buffer));
       lent = search rules;
       same_input = search rules;
@@ -122,5 +122,5 @@ loop-preserved g c =
       );
       read = search rules;
       written = search rules;
-      heard = search rules;
+      observed = search rules;
     }

@@ -2,8 +2,8 @@ use Rattle.std.proofs.Common.{◌≡◌, ◌∙◌, ℕ, ◌<◌, ◌≤◌, Lis
 use Rattle.std.specs.Io.KnownBytes.{Consumes}
 use Rattle.script_text.specs.Script.{script_limit}
 use Rattle.script_run.specs.LineByLine.{EndsRun}
-use Rattle.script_run.specs.Runner.{ScriptState, manner_of}
-use Rattle.script_run.specs.Transcript.{Manner}
+use Rattle.script_run.specs.Runner.{ScriptState, options_of}
+use Rattle.script_run.specs.Transcript.{RunOptions}
 use Rattle.script_run.specs.declared.runner.Outcome.{Outcome}
 use Rattle.script_run.specs.declared.runner.ShellFault.{ShellFault}
 use Rattle.script_run.specs.declared.runner.ShellFault.TheVariants.{Read, Write, Memory}
@@ -19,17 +19,17 @@ cut text place = sym (ap (λ l. l ++ drop place text) (append-nil (take place te
 -- a write failed
 pub returns-in-Err-clause-ran : goal.returns-in-Err-clause-ran
 returns-in-Err-clause-ran g c =
-    let none = ScriptHasCome-none (manner_of c.args.self.manner) _ c.args.state.now.tally c.args.state.now.line c.requires.tally c.requires.line in
-    RanUpTo-by (manner_of c.args.self.manner) (Some c.args.text.now) (Some (drop c.min.result c.args.text.now)) _ _ (take c.min.result c.args.text.now) []
+    let none = ScriptHasCome-none (options_of c.args.self.options) _ c.args.state.now.tally c.args.state.now.line c.requires.tally c.requires.line in
+    RanUpTo-by (options_of c.args.self.options) (Some c.args.text.now) (Some (drop c.min.result c.args.text.now)) _ _ (take c.min.result c.args.text.now) []
     (cut c.args.text.now c.min.result) (c.in-Err.ensures.stopped _ [] none)
 
 -- the run ended among the lines
 pub returns-then-state-clause-ran : goal.returns-then-state-clause-ran
 returns-then-state-clause-ran g c =
-    let none = ScriptHasCome-none (manner_of c.args.self.manner) _ c.args.state.now.tally c.args.state.now.line c.requires.tally c.requires.line in
-    RanWhole-by (manner_of c.args.self.manner) (Some c.args.text.now) (Some (drop c.min.result c.args.text.now)) _ _ c.run_piece.new.state.tally (take c.min.result c.args.text.now) []
+    let none = ScriptHasCome-none (options_of c.args.self.options) _ c.args.state.now.tally c.args.state.now.line c.requires.tally c.requires.line in
+    RanWhole-by (options_of c.args.self.options) (Some c.args.text.now) (Some (drop c.min.result c.args.text.now)) _ _ c.run_piece.new.state.tally (take c.min.result c.args.text.now) []
     (cut c.args.text.now c.min.result)
-    (has_closed (manner_of c.args.self.manner) _ _ c.run_piece.new.state.tally c.run_piece.new.state.line _ c.if-state.true (c.in-Ok.ensures.came _ [] none))
+    (has_closed (options_of c.args.self.options) _ _ c.run_piece.new.state.tally c.run_piece.new.state.line _ c.if-state.true (c.in-Ok.ensures.came _ [] none))
 
 -- the lines within the limit of a text that is longer
 within_limit : (text : List ℕ) (least : ℕ) → least ≡ min (length text) script_limit → script_limit < length text → take script_limit text ≡ take least text
@@ -37,10 +37,10 @@ within_limit text least is over = let same : script_limit ≡ least = omega (ari
 
 pub returns-then-text-gt-SCRIPT_BYTES-clause-ran : goal.returns-then-text-gt-SCRIPT_BYTES-clause-ran
 returns-then-text-gt-SCRIPT_BYTES-clause-ran g c =
-    let none = ScriptHasCome-none (manner_of c.args.self.manner) _ c.args.state.now.tally c.args.state.now.line c.requires.tally c.requires.line in
-    RanRead-by (manner_of c.args.self.manner) (Some c.args.text.now) (Some []) _ _ c.run_piece.new.state.tally c.run_piece.new.state.line (take c.min.result c.args.text.now) c.args.text.now
+    let none = ScriptHasCome-none (options_of c.args.self.options) _ c.args.state.now.tally c.args.state.now.line c.requires.tally c.requires.line in
+    RanRead-by (options_of c.args.self.options) (Some c.args.text.now) (Some []) _ _ c.run_piece.new.state.tally c.run_piece.new.state.line (take c.min.result c.args.text.now) c.args.text.now
     (sym (append-nil c.args.text.now)) (within_limit c.args.text.now c.min.result c.min.ensures c.if-text-gt-SCRIPT_BYTES.true)
-    (has_come (manner_of c.args.self.manner) _ _ c.run_piece.new.state.tally c.run_piece.new.state.line _ c.if-state.false (c.in-Ok.ensures.came _ [] none))
+    (has_come (options_of c.args.self.options) _ _ c.run_piece.new.state.tally c.run_piece.new.state.line _ c.if-state.false (c.in-Ok.ensures.came _ [] none))
 
 -- a text that is not longer than the limit is taken whole
 whole : (text : List ℕ) (least : ℕ) → least ≡ min (length text) script_limit → length text ≤ script_limit → Consumes (Some text) (Some []) (take least text)
@@ -48,21 +48,21 @@ whole text least is fits = sym (append-nil (take least text) ∙ take_all least 
 
 pub returns-clause-ran : goal.returns-clause-ran
 returns-clause-ran g c =
-    let none = ScriptHasCome-none (manner_of c.args.self.manner) _ c.args.state.now.tally c.args.state.now.line c.requires.tally c.requires.line in
-    let come = has_come (manner_of c.args.self.manner) _ _ c.run_piece.new.state.tally c.run_piece.new.state.line _ c.if-state.false (c.in-Ok.ensures.came _ [] none) in
-    Ran-ended (manner_of c.args.self.manner) (Some c.args.text.now) (Some []) _ _ (take c.min.result c.args.text.now) c.run_last.result
+    let none = ScriptHasCome-none (options_of c.args.self.options) _ c.args.state.now.tally c.args.state.now.line c.requires.tally c.requires.line in
+    let come = has_come (options_of c.args.self.options) _ _ c.run_piece.new.state.tally c.run_piece.new.state.line _ c.if-state.false (c.in-Ok.ensures.came _ [] none) in
+    Ran-ended (options_of c.args.self.options) (Some c.args.text.now) (Some []) _ _ (take c.min.result c.args.text.now) c.run_last.result
     (whole c.args.text.now c.min.result c.min.ensures (omega (arith, c.if-text-gt-SCRIPT_BYTES.false))) refl
     (c.run_last.ensures.ended _ (take c.min.result c.args.text.now) come)
 
 -- the last line is never one that cannot be read
-never_read : (P : Type 0) (manner : Manner) (first stand : ScriptState) (script : List ℕ) (ended : Result Outcome ShellFault) → EndsRun manner first stand script ended → ended ≡ Err Read → P
-never_read P manner first stand script (Ok outcome) ends is = cc
-never_read P manner first stand script (Err Read) ends is = let other : Read ≡ Write = ends.0 in cc
-never_read P manner first stand script (Err Write) ends is = cc
-never_read P manner first stand script (Err (Memory error)) ends is = cc
+never_read : (P : Type 0) (options : RunOptions) (first reached : ScriptState) (script : List ℕ) (ended : Result Outcome ShellFault) → EndsRun options first reached script ended → ended ≡ Err Read → P
+never_read P options first reached script (Ok outcome) ends is = cc
+never_read P options first reached script (Err Read) ends is = let other : Read ≡ Write = ends.0 in cc
+never_read P options first reached script (Err Write) ends is = cc
+never_read P options first reached script (Err (Memory error)) ends is = cc
 
 pub returns-clause-long : goal.returns-clause-long
 returns-clause-long g c = λ is.
-    let none = ScriptHasCome-none (manner_of c.args.self.manner) _ c.args.state.now.tally c.args.state.now.line c.requires.tally c.requires.line in
-    let come = has_come (manner_of c.args.self.manner) _ _ c.run_piece.new.state.tally c.run_piece.new.state.line _ c.if-state.false (c.in-Ok.ensures.came _ [] none) in
-    never_read _ (manner_of c.args.self.manner) _ _ (take c.min.result c.args.text.now) c.run_last.result (c.run_last.ensures.ended _ (take c.min.result c.args.text.now) come) is
+    let none = ScriptHasCome-none (options_of c.args.self.options) _ c.args.state.now.tally c.args.state.now.line c.requires.tally c.requires.line in
+    let come = has_come (options_of c.args.self.options) _ _ c.run_piece.new.state.tally c.run_piece.new.state.line _ c.if-state.false (c.in-Ok.ensures.came _ [] none) in
+    never_read _ (options_of c.args.self.options) _ _ (take c.min.result c.args.text.now) c.run_last.result (c.run_last.ensures.ended _ (take c.min.result c.args.text.now) come) is

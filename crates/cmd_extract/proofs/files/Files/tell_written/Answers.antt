@@ -1,7 +1,0 @@
-use Rattle.std.proofs.Common.{rules}
-use Rattle.cmd_extract.specs.Progress.{told_progress}
-use Rattle.cmd_extract.proofs.files.Files.tell_written.Goals as goal
-
-pub returns : goal.returns
-unfolding told_progress
-returns c = search rules

@@ -1,0 +1,39 @@
+use Rattle.std.proofs.Common.{rules, ap, string_bytes}
+use Rattle.program_batch.specs.Names.{File}
+use Rattle.program_batch.proofs.RunSteps.{Steps-none, Steps-next, Steps-all, Runs-stopped}
+use Rattle.program_batch.proofs.batch.Batch.answer_files.Goals as goal
+
+pub loop-name-init : goal.loop-name-init
+loop-name-init g c = record {
+  output = search rules;
+  faults = search rules;
+  options = search rules;
+  delivered = search rules;
+  unfailed = search rules;
+  silent = search rules;
+  answered = Steps-none _ _;
+}
+
+pub loop-name-preserved : goal.loop-name-preserved
+loop-name-preserved g c =
+    let i = c.loop-name.invariant in
+    record {
+      output = search rules;
+      faults = search rules;
+      options = search rules;
+      delivered = search rules;
+      unfailed = search rules;
+      silent = search rules;
+      answered = Steps-next _ _ (λ name. File (string_bytes name)) c.args.names.now c.loop-name.name-index c.name-item.result _ _ _ _ c.loop-name-test.true c.name-item.is
+          i.answered (ap g.C.FileTask.effects i.options) (ap File c.as_str.ensures.value) c.in_ok-answer_file.ensures.answered;
+    }
+
+pub returns-in_err-answer_file-clause-answered : goal.returns-in_err-answer_file-clause-answered
+returns-in_err-answer_file-clause-answered g c =
+    let i = c.loop-name.invariant in
+    Runs-stopped _ _ (λ name. File (string_bytes name)) c.args.names.now c.loop-name.name-index c.name-item.result _ c.in_err-answer_file.field-0.0 _ _ _ _ c.loop-name-test.true
+    c.name-item.is i.answered (ap g.C.FileTask.effects i.options) (ap File c.as_str.ensures.value) c.in_err-answer_file.ensures.answered (search rules)
+
+pub returns-clause-answered : goal.returns-clause-answered
+returns-clause-answered g c =
+    Steps-all _ (λ name. File (string_bytes name)) c.args.names.now c.loop-name.name-index _ _ (search rules) c.loop-name.invariant.answered

@@ -1,0 +1,257 @@
+//! `Batch`: files are read, processed and flushed, one after another.
+ghost use Rattle.std.specs.Prelude.{◌≡◌, [], true, map, string_bytes, IfOk, OnErr, OnOk};
+ghost use Rattle.program_batch.specs.Names.{File, NoFile as no_file};
+ghost use Rattle.program_batch.specs.Answers.{KeepsQuiet, answer_of};
+ghost use Rattle.program_batch.specs.Runs.{Begins, EndsAt, EndsServing, EndsUnread, Runs, ReportsResult, account_at, run_state_at, reported_at};
+
+use crate::reason::{Reason, push_known_reason, reason_of};
+use crate::report::{ReportBuffer, Verdict};
+use crate::task::FileTask;
+use host_storage::{Host, HostFault};
+use script_text::output::{OutputStream, WriteFault};
+use std::alloc::{AllocError, Global};
+use std::io::Write;
+use thiserror::Error;
+
+/// The most bytes of an image, a program or a text that are read from a file.
+pub const FILE_BYTES: usize = 16_777_216;
+
+/// Why a run stopped before its last file.
+#[derive(Clone, Copy, Debug, PartialEq, Eq, Error)]
+pub enum RunFault {
+    /// The list of names cannot be read to its end. All names that were ended before are processed.
+    #[error("the list of names cannot be read")]
+    List,
+    /// The output takes no more bytes.
+    #[error("write fault")]
+    Write,
+    #[error("out of memory")]
+    Memory,
+}
+
+impl From<AllocError> for RunFault {
+    ghost use Rattle.std.specs.Prelude.{◌≡◌};
+    ghost use Rattle.program_batch.specs.declared.batch.RunFault.TheVariants.{Memory};
+
+    ghost from_gives = { λ _ fault. fault ≡ Memory };
+
+    fn from(_error: AllocError) -> RunFault {
+        RunFault::Memory
+    }
+}
+
+impl From<WriteFault> for RunFault {
+    ghost use Rattle.std.specs.Prelude.{◌≡◌};
+    ghost use Rattle.program_batch.specs.declared.batch.RunFault.TheVariants.{Write};
+
+    ghost from_gives = { λ _ fault. fault ≡ Write };
+
+    fn from(_fault: WriteFault) -> RunFault {
+        RunFault::Write
+    }
+}
+
+/// A name that cannot be a file's: how it is shown, and why.
+#[derive(Clone, Copy, Debug)]
+pub(crate) struct NoFile<'n> {
+    pub(crate) shown: &'n [u8],
+    pub(crate) reason: Reason,
+}
+
+/// The buffers of a run, which are used for one file after another, and its worst verdict so far.
+#[derive(Drop)]
+pub struct Batch {
+    bytes: Vec<u8>,
+    /// The result that `report_result` writes.
+    pub buffer: ReportBuffer,
+    worst: Verdict,
+}
+
+impl Batch {
+    /// Returns an empty batch: no file is processed, and its buffers have no memory yet.
+    pub fn new(alloc: Global) -> Batch
+        ensures { result.worst ≡ Verdict.Clean }
+    {
+        Batch {
+            bytes: Vec::new(alloc),
+            buffer: ReportBuffer::new(alloc),
+            worst: Verdict::Clean,
+        }
+    }
+
+    /// Returns the worst verdict on the files that were processed.
+    pub fn worst(&self) -> Verdict
+        ensures { result ≡ self.now.worst }
+    {
+        self.worst
+    }
+
+    /// Prints the heading and flushes the output.
+    pub fn begin<C: FileTask, W: Write>(
+        &mut self,
+        task: &mut C,
+        output: &mut OutputStream<'_, W>,
+    ) -> Result<(), RunFault>
+        ensures output { output.new.writer.ghost_name ≡ output.old.writer.ghost_name }
+        ensures options { C.options task.new ≡ C.options task.old }
+        ensures delivered { OnOk result (output.new.is_delivered ≡ true) }
+        ensures unfailed { OnOk result (output.new.has_failed ≡ output.old.has_failed) }
+        ensures worst { self.new.worst ≡ self.old.worst }
+        ensures begun { Begins (C.heading task.old) (account_at W.contents output.old) (account_at W.contents output.new) result }
+    {
+        task.head(&mut self.buffer)?;
+        output.write(self.buffer.printed.as_slice())?;
+        output.flush()?;
+        Ok(())
+    }
+
+    /// Processes a file of the host.
+    pub(crate) fn answer_file<H: Host, C: FileTask, W: Write, F: Write>(
+        &mut self,
+        name: &str,
+        host: &mut H,
+        task: &mut C,
+        output: &mut OutputStream<'_, W>,
+        faults: &mut OutputStream<'_, F>,
+    ) -> Result<(), RunFault>
+        ensures output { output.new.writer.ghost_name ≡ output.old.writer.ghost_name }
+        ensures faults { faults.new.writer.ghost_name ≡ faults.old.writer.ghost_name }
+        ensures options { C.options task.new ≡ C.options task.old }
+        ensures delivered { OnOk result (output.new.is_delivered ≡ true) }
+        ensures unfailed { OnOk result (output.new.has_failed ≡ output.old.has_failed) }
+        ensures silent { KeepsQuiet (C.effects (C.options task.old)) → self.new.worst ≡ Verdict.Clean → (self.old.worst ≡ Verdict.Clean) × (faults.new ≡ faults.old) }
+        ensures answered { EndsAt (C.effects (C.options task.old)) (File name.now)
+            (run_state_at H.state host.old W.contents output.old F.contents faults.old self.old.worst)
+            (run_state_at H.state host.new W.contents output.new F.contents faults.new self.new.worst) result }
+    {
+        let verdict = self.serve(name, host, task)?;
+        self.report_result(verdict, output, faults)?;
+        Ok(())
+    }
+
+    /// Reads a file of the host, and lets the task put the result into the buffer.
+    #[tactic(auto, using(crate::proofs::Serving::serves_read, crate::proofs::Serving::halts_read, crate::proofs::Serving::ends_unread))]
+    fn serve<H: Host, C: FileTask>(
+        &mut self,
+        name: &str,
+        host: &mut H,
+        task: &mut C,
+    ) -> Result<Verdict, RunFault>
+        ensures options { C.options task.new ≡ C.options task.old }
+        ensures worst { self.new.worst ≡ self.old.worst }
+        ensures quiet { IfOk result (λ verdict. KeepsQuiet (C.effects (C.options task.old)) → verdict ≡ Verdict.Clean → self.new.buffer.complaint.items ≡ []) }
+        ensures served { EndsServing (C.effects (C.options task.old)) (File name.now) (H.state host.old) (H.state host.new)
+            (answer_of self.new.buffer.printed.items self.new.buffer.complaint.items) result }
+    {
+        match host.fill(name, FILE_BYTES, &mut self.bytes) {
+            Ok(()) => {
+                let bytes = Some(self.bytes.as_slice());
+                Ok(task.answer(name.as_bytes(), bytes, host, &mut self.buffer)?)
+            }
+            Err(HostFault::Memory(_)) => Err(RunFault::Memory),
+            Err(fault) => {
+                let reason = reason_of(host, name, fault);
+                self.serve_unread(name.as_bytes(), reason, host, task)
+            }
+        }
+    }
+
+    /// Puts the result of a file that could not be read into the buffer, with the reason if one is
+    /// known.
+    fn serve_unread<H: Host, C: FileTask>(
+        &mut self,
+        name: &[u8],
+        reason: Option<Reason>,
+        host: &mut H,
+        task: &mut C,
+    ) -> Result<Verdict, RunFault>
+        ensures options { C.options task.new ≡ C.options task.old }
+        ensures worst { self.new.worst ≡ self.old.worst }
+        ensures quiet { IfOk result (λ verdict. KeepsQuiet (C.effects (C.options task.old)) → verdict ≡ Verdict.Clean → self.new.buffer.complaint.items ≡ []) }
+        ensures served { EndsUnread (C.effects (C.options task.old)) name.now reason (H.state host.old) (H.state host.new)
+            (answer_of self.new.buffer.printed.items self.new.buffer.complaint.items) result }
+    {
+        let verdict = task.answer(name, None, host, &mut self.buffer)?;
+        push_known_reason(&mut self.buffer.complaint, reason)?;
+        Ok(verdict)
+    }
+
+    /// Processes a name that cannot be a file's.
+    #[tactic(auto, using(crate::proofs::Serving::serves_no_file, crate::proofs::Serving::halts_no_file))]
+    pub(crate) fn answer_no_file<H: Host, C: FileTask, W: Write, F: Write>(
+        &mut self,
+        name: NoFile<'_>,
+        host: &mut H,
+        task: &mut C,
+        output: &mut OutputStream<'_, W>,
+        faults: &mut OutputStream<'_, F>,
+    ) -> Result<(), RunFault>
+        ensures output { output.new.writer.ghost_name ≡ output.old.writer.ghost_name }
+        ensures faults { faults.new.writer.ghost_name ≡ faults.old.writer.ghost_name }
+        ensures options { C.options task.new ≡ C.options task.old }
+        ensures delivered { OnOk result (output.new.is_delivered ≡ true) }
+        ensures unfailed { OnOk result (output.new.has_failed ≡ output.old.has_failed) }
+        ensures silent { KeepsQuiet (C.effects (C.options task.old)) → self.new.worst ≡ Verdict.Clean → (self.old.worst ≡ Verdict.Clean) × (faults.new ≡ faults.old) }
+        ensures answered { EndsAt (C.effects (C.options task.old)) (no_file name.entry.shown.now name.entry.reason)
+            (run_state_at H.state host.old W.contents output.old F.contents faults.old self.old.worst)
+            (run_state_at H.state host.new W.contents output.new F.contents faults.new self.new.worst) result }
+    {
+        let verdict = self.serve_unread(name.shown, Some(name.reason), host, task)?;
+        self.report_result(verdict, output, faults)?;
+        Ok(())
+    }
+
+    /// Processes files of the host, one after another. `Write` comes if the output fails, and no
+    /// file is processed after that; a file that cannot be read stops nothing.
+    pub fn answer_files<H: Host, C: FileTask, W: Write, F: Write>(
+        &mut self,
+        names: &[String],
+        host: &mut H,
+        task: &mut C,
+        output: &mut OutputStream<'_, W>,
+        faults: &mut OutputStream<'_, F>,
+    ) -> Result<(), RunFault>
+        ensures output { output.new.writer.ghost_name ≡ output.old.writer.ghost_name }
+        ensures faults { faults.new.writer.ghost_name ≡ faults.old.writer.ghost_name }
+        ensures options { C.options task.new ≡ C.options task.old }
+        ensures delivered { output.old.is_delivered ≡ true → OnOk result (output.new.is_delivered ≡ true) }
+        ensures unfailed { OnOk result (output.new.has_failed ≡ output.old.has_failed) }
+        ensures silent { KeepsQuiet (C.effects (C.options task.old)) → self.new.worst ≡ Verdict.Clean → (self.old.worst ≡ Verdict.Clean) × (faults.new ≡ faults.old) }
+        ensures answered { Runs (C.effects (C.options task.old)) (map (λ name. File (string_bytes name)) names.now)
+            (run_state_at H.state host.old W.contents output.old F.contents faults.old self.old.worst)
+            (run_state_at H.state host.new W.contents output.new F.contents faults.new self.new.worst) result }
+    {
+        for name in names {
+            self.answer_file(name.as_str(), host, task, output, faults)?;
+        }
+        Ok(())
+    }
+
+    /// Writes what is in the buffer, flushes the output, and counts the verdict. If the buffer has
+    /// no complaint, the standard error is left alone; if the standard error fails, the rest of the
+    /// complaint is dropped.
+    pub fn report_result<W: Write, F: Write>(
+        &mut self,
+        verdict: Verdict,
+        output: &mut OutputStream<'_, W>,
+        faults: &mut OutputStream<'_, F>,
+    ) -> Result<(), WriteFault>
+        ensures output { output.new.writer.ghost_name ≡ output.old.writer.ghost_name }
+        ensures faults { faults.new.writer.ghost_name ≡ faults.old.writer.ghost_name }
+        ensures delivered { OnOk result (output.new.is_delivered ≡ true) }
+        ensures unfailed { OnOk result (output.new.has_failed ≡ output.old.has_failed) }
+        ensures silent { self.old.buffer.complaint.items ≡ [] → faults.new ≡ faults.old }
+        ensures stopped { OnErr result (faults.new ≡ faults.old) }
+        ensures reported { ReportsResult (answer_of self.old.buffer.printed.items self.old.buffer.complaint.items verdict)
+            (reported_at W.contents output.old F.contents faults.old self.old.worst)
+            (reported_at W.contents output.new F.contents faults.new self.new.worst) result }
+    {
+        output.write(self.buffer.printed.as_slice())?;
+        output.flush()?;
+        if !self.buffer.complaint.is_empty() {
+            let _ = faults.write(self.buffer.complaint.as_slice());
+        }
+        self.worst = self.worst.worse(verdict);
+        Ok(())
+    }
+}
