@@ -18,7 +18,7 @@ Choice = namedtuple("Choice", "word source code")
 
 
 def dump_of(file):
-    """The blocks of a file's dump, with their codes or None; or None where it is no dump."""
+    """The blocks of a file's dump, with their codes or None; or None if it is no dump."""
     if surveys.error_of(file):
         return None
     data = file if len(file) in surveys.KINDS_OF_DUMPS else g64_model.read(file)
@@ -64,7 +64,7 @@ class Merge:
         return sum(choice.word == word for choice in self.choices)
 
     def bytes(self):
-        """The bytes of the file that is made, or None where there is a conflict."""
+        """The bytes of the file that is made, or None if there is a conflict."""
         if self.count("conflict"):
             return None
         blocks = b"".join(copies[choice.source][0] for copies, choice in zip(self.copies, self.choices))

@@ -25,24 +25,25 @@ outcome_text Majority = codes " differs: taken, as in more than half of the good
 outcome_text First = codes " differs: taken from the first good copy, in "
 outcome_text Conflict = codes " differs in good copies, and none of them is taken"
 
--- that name
+-- the name of that file; empty if there is none
 abbrev pub source_text : Option Bytes → List ℕ
 source_text name = option_map_or shown_name name []
 
--- the read error of a block in a dump of this name, if there is one
+-- the read error of a block after the name of a file, if the code is a read error; and that of a
+-- block that may have no code
 abbrev pub error_text : Bytes → ℕ → List ℕ
 error_text name code = if is_read_error code then codes "; " ++ (shown_name name ++ (codes ": code " ++ (decimal code ++ status_text (drive_status code)))) else []
 
 abbrev pub copy_text : Bytes → Option ℕ → List ℕ
 copy_text name code = option_map_or (error_text name) code []
 
--- the same of a file and its dump, if there are such
+-- the same for a file and its dump; empty if one of them is missing
 abbrev pub error_of : ℕ → Option Bytes → Option DumpView → List ℕ
 error_of block None dump = []
 error_of block (Some name) None = []
 error_of block (Some name) (Some dump) = copy_text name (known_code block dump)
 
--- the same at a place of the files and their dumps
+-- the same for the file and the dump at a place
 abbrev pub error_at : ℕ → List Bytes → List DumpView → ℕ → List ℕ
 error_at block names dumps place = error_of block (name_at names (Some place)) (dump_at dumps (Some place))
 
@@ -56,62 +57,62 @@ choice_text names dumps choice =
     codes "  " ++ (block_text choice.block ++ (outcome_text choice.outcome ++ (source_text (name_at names choice.source)
     ++ (error_texts choice.block names dumps ++ codes "\n"))))
 
--- and that for each block that isn't the same in all dumps
+-- the line of a block, and the lines of all blocks; a block that is the same in all dumps has none
 abbrev pub line_of_choice : List Bytes → List DumpView → Choice → List ℕ
 line_of_choice names dumps choice = if is_outcome Same choice.outcome then [] else choice_text names dumps choice
 
 unfoldable pub lines_of_choices : List Bytes → List DumpView → List Choice → List ℕ
 lines_of_choices names dumps list = flat_map (line_of_choice names dumps) list
 
--- of how many blocks this is said, if of any
+-- a number of blocks and a word for what became of them; empty if it is 0
 unfoldable pub count_if_any : ℕ → List ℕ → List ℕ
 count_if_any count word = if count == 0 then [] else codes ", " ++ (decimal count ++ word)
 
--- how many blocks are the same, taken, or lost
+-- how many blocks are the same in all dumps, taken, or lost
 unfoldable pub settled_text : List Choice → List ℕ
 settled_text list =
     decimal (count_of Same list) ++ (codes " the same in all dumps"
     ++ (count_if_any (count_of Taken list) (codes " taken") ++ count_if_any (count_of Lost list) (codes " lost")))
 
--- of how many good copies differ
+-- how many blocks whose good copies differ have each outcome
 unfoldable pub differing_text : List Choice → List ℕ
 differing_text list =
     count_if_any (count_of Majority list) (codes " by majority")
     ++ (count_if_any (count_of First list) (codes " from the first good copy") ++ count_if_any (count_of Conflict list) (codes " in conflict"))
 
--- what became of the blocks, by numbers
+-- how many blocks have each outcome
 abbrev pub counts_text : List Choice → List ℕ
 counts_text list = settled_text list ++ differing_text list
 
--- that there are read codes, or not
+-- what is printed after the number of tracks: whether there are read codes
 abbrev pub codes_text : Bool → List ℕ
 codes_text with_codes = if with_codes then codes " tracks with read codes, " else codes " tracks, "
 
--- how many tracks and blocks the dump has, and whether read codes
+-- how many tracks and blocks the dump has, and whether it has read codes
 unfoldable pub size_text : ℕ → Bool → List Choice → List ℕ
 size_text tracks with_codes list =
     decimal tracks ++ (codes_text with_codes ++ (count_text (length list) (codes "block") ++ codes ": "))
 
--- the tracks of G64 files that hold what the dump lacks
+-- the track of an entry, after a space; and the line of those that hold what the dump lacks
 abbrev pub listed_entry : ℕ → List ℕ
 listed_entry entry = codes " " ++ entry_text entry
 
 unfoldable pub left_line : List ℕ → List ℕ
 left_line left = codes "  blocks that it lacks are on these tracks of a G64:" ++ (flat_map listed_entry left ++ codes "\n")
 
--- if there are such
+-- that line; empty if there are no such tracks
 abbrev pub left_text : List ℕ → List ℕ
 left_text left = if length left == 0 then [] else left_line left
 
--- the digest of the file that was made, or that none was
+-- the line of the digest of the file that was made, or that none was written
 abbrev pub digest_text : Option Bytes → List ℕ
 digest_text digest = option_map_or (λ bytes. codes "  SHA-256 " ++ (encode_lower bytes ++ codes "\n")) digest (codes "  not written\n")
 
--- the line of the file, and the lines below those of the blocks
+-- the line of the file that is made
 unfoldable pub first_line : Bytes → ℕ → Bool → List Choice → List ℕ
 first_line out tracks with_codes list = shown_name out ++ (codes ": " ++ (size_text tracks with_codes list ++ (counts_text list ++ codes "\n")))
 
--- all of it
+-- all that is printed of a merge for people
 unfoldable pub text_report : Bytes → ℕ → Bool → List Bytes → List DumpView → List Choice → List ℕ → Option Bytes → List ℕ
 text_report out tracks with_codes names dumps list left digest =
     first_line out tracks with_codes list ++ (lines_of_choices names dumps list ++ (left_text left ++ digest_text digest))

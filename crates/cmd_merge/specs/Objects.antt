@@ -33,7 +33,7 @@ name_at names (Some place) = slice_get names place
 abbrev pub name_or_null : Option Bytes → Json
 name_or_null name = option_map_or host_value name null
 
--- the read codes of a block, one a dump
+-- the read codes of a block, one for each dump
 abbrev pub codes_value : List DumpView → ℕ → Json
 codes_value dumps block = array_of (map (λ dump. numeral_or_null (known_code block dump)) dumps)
 
@@ -43,7 +43,7 @@ choice_members names choice =
     (codes "block", string (block_text choice.block)) ∷ (codes "result", string (outcome_word choice.outcome))
     ∷ (codes "from", name_or_null (name_at names choice.source)) ∷ []
 
--- its read codes
+-- the read codes of a block, as a member
 abbrev pub codes_members : List DumpView → ℕ → List Field
 codes_members dumps block = (codes "codes", codes_value dumps block) ∷ []
 
@@ -51,7 +51,7 @@ codes_members dumps block = (codes "codes", codes_value dumps block) ∷ []
 abbrev pub choice_object : List Bytes → List DumpView → Choice → Json
 choice_object names dumps choice = object_of (choice_members names choice ++ codes_members dumps choice.block)
 
--- and that for each block that isn't the same in all dumps
+-- the line of a block, and the lines of all blocks; a block that is the same in all dumps has none
 abbrev pub choice_line : List Bytes → List DumpView → Choice → List ℕ
 choice_line names dumps choice = if is_outcome Same choice.outcome then [] else line_of (choice_object names dumps choice)
 
@@ -67,7 +67,7 @@ abbrev pub size_members : Bytes → ℕ → Bool → List Choice → List Field
 size_members out tracks with_codes list =
     (codes "out", host_value out) ∷ (codes "tracks", numeral tracks) ∷ (codes "codes", boolean with_codes) ∷ (codes "blocks", numeral (length list)) ∷ []
 
--- of how many blocks each outcome came
+-- how many blocks have an outcome; and that for each outcome other than `Same`
 abbrev pub count_member : Outcome → List Choice → Field
 count_member outcome list = (outcome_word outcome, numeral (count_of outcome list))
 
@@ -79,11 +79,11 @@ count_members list =
 abbrev pub left_members : List ℕ → List Field
 left_members left = (codes "left", array_of (map (λ entry. string (entry_text entry)) left)) ∷ []
 
--- the digest of the file that was made; null where none was
+-- the digest of the file that was made; null if none was
 abbrev pub digest_members : Option Bytes → List Field
 digest_members digest = (codes "sha256", option_map_or (λ bytes. string (encode_lower bytes)) digest null) ∷ []
 
--- what is printed of all of it
+-- the object of the summary
 abbrev pub summary_object : Bytes → ℕ → Bool → List Choice → List ℕ → Option Bytes → Json
 summary_object out tracks with_codes list left digest =
     object_of (size_members out tracks with_codes list ++ (count_members list ++ (left_members left ++ digest_members digest)))

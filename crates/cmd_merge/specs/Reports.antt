@@ -1,4 +1,4 @@
--- What is said of a merge.
+-- What is printed and reported of a merge.
 use Rattle.std.specs.Prelude.{ℕ, ◌+◌, ◌==◌, Bool, if◌then◌else◌, List, [], ◌∷◌, ◌++◌, length, Option, Some, None, option_map, Result, Ok, Err}
 use Rattle.sha2.specs.Sha256.{sha256}
 use Rattle.d64_image.specs.Disk.{Bytes}
@@ -22,8 +22,8 @@ use Rattle.cmd_merge.specs.Setup.{SetupView}
 use Rattle.cmd_merge.specs.Objects.{choice_lines, summary_object}
 use Rattle.cmd_merge.specs.Lines.{text_report}
 
--- what was read: what is printed and complained of the files that are no dumps, the bytes of the
--- others, and their dumps
+-- what was read: what is printed and reported of the files that are no dumps or cannot be read, the
+-- bytes of the others, and their dumps
 pub record ReadingsView : Type 0 where
   pub printed : List ℕ
   pub complaint : List ℕ
@@ -38,14 +38,14 @@ no_readings = record { printed = []; complaint = []; files = []; dumps = [] }
 abbrev pub with_dump : Bytes → DumpView → ReadingsView → ReadingsView
 with_dump bytes dump readings = record readings { files = readings.files ++ bytes ∷ []; dumps = readings.dumps ++ dump ∷ [] }
 
--- one more file isn't answered
+-- one more file is no dump or cannot be read
 abbrev pub with_fault : DiffForm → Bytes → Contents → ReadingsView → ReadingsView
 with_fault form name contents readings = record readings {
   printed = readings.printed ++ printed_fault form name contents;
   complaint = readings.complaint ++ fault_line name contents;
 }
 
--- one more file, by the dump that it is
+-- one more file with these bytes: its dump, or None if it is no dump
 abbrev pub with_bytes : DiffForm → Bytes → Bytes → Option DumpView → ReadingsView → ReadingsView
 with_bytes form name bytes (Some dump) readings = with_dump bytes dump readings
 with_bytes form name bytes None readings = with_fault form name (Ok bytes) readings
@@ -63,7 +63,7 @@ is_answered readings = length readings.complaint == 0
 abbrev pub choices_of : SetupView → ReadingsView → List Choice
 choices_of setup readings = choices setup.preference readings.dumps
 
--- the dump that is made; none if there is a conflict
+-- the dump that is made; None if there is a conflict
 abbrev pub made : SetupView → ReadingsView → Option DumpView
 made setup readings = merged setup.preference setup.plain readings.dumps
 
@@ -77,30 +77,30 @@ report_by Text out tracks with_codes names dumps list left digest = text_report 
 report_by Json out tracks with_codes names dumps list left digest =
     choice_lines names dumps list ++ line_of (summary_object out tracks with_codes list left digest)
 
--- what is printed of a merge, with the digest of the file that was made
+-- what is printed of a merge, with the digest of the file that was made; None if none was
 abbrev pub report_of : SetupView → ReadingsView → Option Bytes → List ℕ
 report_of setup readings digest =
     report_by setup.form setup.out (merged_tracks readings.dumps) (keeps_codes setup.plain readings.dumps) setup.names readings.dumps
     (choices_of setup readings) (left_of setup readings) digest
 
--- a file that was to be made is there already
+-- the result if the file that was to be made is there already
 abbrev pub present_answer : SetupView → Answer
 present_answer setup = record { printed = []; complaint = present_line setup.out; verdict = Failed }
 
--- a file isn't answered
+-- the result if a file is no dump or cannot be read
 abbrev pub faulted_answer : ReadingsView → Answer
 faulted_answer readings = record { printed = readings.printed; complaint = readings.complaint; verdict = Failed }
 
--- blocks are lost, taken from the first good copy, or in conflict
+-- the verdict: amiss if a block is lost, taken from the first good copy, or in conflict, else clean
 abbrev pub verdict_on : List Choice → Verdict
 verdict_on list = if count_of Lost list + count_of First list + count_of Conflict list == 0 then Clean else Amiss
 
--- nothing was to be made, for a conflict; or the file was made of these bytes
+-- the result if the file was made of these bytes; None if a conflict forbade it
 abbrev pub merged_answer : SetupView → ReadingsView → Option Bytes → Answer
 merged_answer setup readings bytes =
     record { printed = report_of setup readings (option_map sha256 bytes); complaint = []; verdict = verdict_on (choices_of setup readings) }
 
--- it cannot be made, for this reason, if one is known
+-- the result if the file cannot be made, with the reason, if one is known
 abbrev pub unwritten_answer : SetupView → ReadingsView → Option Reason → Answer
 unwritten_answer setup readings reason =
     record { printed = report_of setup readings None; complaint = with_known_reason reason (unwritten_line setup.out); verdict = Failed }

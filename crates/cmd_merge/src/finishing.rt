@@ -17,7 +17,7 @@ use sha2::{Digest, Sha256};
 use std::alloc::{AllocError, Global};
 use std::mem;
 
-/// Puts into the room that the file that was to be made is there already.
+/// Replaces the buffer's contents by the line that the file to be made is there already.
 pub fn say_present(setup: &Setup, buffer: &mut ReportBuffer) -> Result<Verdict, AllocError>
     ensures { IfOk result (λ verdict. answer_of buffer.new.printed.items buffer.new.complaint.items verdict ≡ present_answer setup.now) }
 {
@@ -26,7 +26,8 @@ pub fn say_present(setup: &Setup, buffer: &mut ReportBuffer) -> Result<Verdict, 
     Ok(Verdict::Failed)
 }
 
-/// Puts into the room, which is empty, what is said of files that are no dumps.
+/// Replaces the buffer's contents by what is printed and reported of the files that are no dumps
+/// or cannot be read.
 fn say_faults(readings: &Readings, buffer: &mut ReportBuffer) -> Result<Verdict, AllocError>
     ensures { IfOk result (λ verdict. answer_of buffer.new.printed.items buffer.new.complaint.items verdict ≡ faulted_answer readings.now) }
 {
@@ -36,8 +37,8 @@ fn say_faults(readings: &Readings, buffer: &mut ReportBuffer) -> Result<Verdict,
     Ok(Verdict::Failed)
 }
 
-/// Puts into the room what is said of a merge whose file was made of these bytes, or of none where
-/// there is a conflict.
+/// Replaces the buffer's contents by the report of a merge whose file was made of these bytes, or
+/// None if a conflict forbade it, and returns the verdict on the blocks.
 fn say_merged(
     alloc: Global,
     setup: &Setup,
@@ -61,8 +62,8 @@ fn say_merged(
     Ok(verdict_on(&plan.list))
 }
 
-/// Puts into the room what is said of a merge whose file cannot be made, for a reason that may be
-/// known.
+/// Replaces the buffer's contents by the report of a merge whose file cannot be made, with the
+/// reason (None if unknown).
 fn say_unwritten(
     alloc: Global,
     setup: &Setup,
@@ -84,8 +85,8 @@ fn say_unwritten(
     Ok(Verdict::Failed)
 }
 
-/// Makes the file of the bytes of the merged dump, if there is no conflict, and puts into the room
-/// what is said.
+/// Makes the file of the bytes of the merged dump, if there is no conflict, and replaces the
+/// buffer's contents by the report.
 fn write<H: Host>(
     alloc: Global,
     setup: &Setup,
@@ -113,9 +114,9 @@ fn write<H: Host>(
     }
 }
 
-/// Ends a merge whose files were read: makes the file of the merged dump, if each of them is a
-/// dump and there is no conflict, and puts into the room what is said. Where there is no memory to
-/// say it, the file may have been made, whole.
+/// Ends a merge whose files were read: makes the file of the merged dump, if each of them is a dump
+/// and there is no conflict, and replaces the buffer's contents by the report. If memory runs out,
+/// the file may have been made, whole.
 pub fn finish<H: Host>(
     alloc: Global,
     setup: &Setup,

@@ -13,7 +13,7 @@ use host_names::push_shown;
 use out_messages::{push_block, push_count, push_number, push_status};
 use std::alloc::AllocError;
 
-/// What became of a block, before the name of the file whose bytes were taken.
+/// Returns what is printed of an outcome, before the name of the file whose bytes were taken.
 fn outcome_text(outcome: Outcome) -> &'static [u8]
     ensures { result.now ≡ outcome_text outcome }
 {
@@ -27,7 +27,7 @@ fn outcome_text(outcome: Outcome) -> &'static [u8]
     }
 }
 
-/// Adds the name of the file whose bytes were taken, if there is one.
+/// Appends the name of the file whose bytes were taken, if there is one.
 fn push_source(out: &mut Vec<u8>, name: Option<&String>) -> Result<(), AllocError>
     ensures { OnOk result (out.new.items ≡ out.old.items ++ source_text (option_map (λ name. string_bytes name.now) name.entry)) }
 {
@@ -37,7 +37,7 @@ fn push_source(out: &mut Vec<u8>, name: Option<&String>) -> Result<(), AllocErro
     }
 }
 
-/// Adds the read error of a block in a dump of this name, if it has one.
+/// Appends the read error of a block after the name of a file, if the code is a read error.
 fn push_error(out: &mut Vec<u8>, name: &[u8], code: u8) -> Result<(), AllocError>
     ensures { OnOk result (out.new.items ≡ out.old.items ++ error_text name.now code) }
 {
@@ -51,7 +51,7 @@ fn push_error(out: &mut Vec<u8>, name: &[u8], code: u8) -> Result<(), AllocError
     push_status(out, drive_status(code))
 }
 
-/// The same where the dump may have no code for the block.
+/// Appends the read error of a block that may have no code.
 fn push_copy(out: &mut Vec<u8>, name: &[u8], code: Option<u8>) -> Result<(), AllocError>
     ensures { OnOk result (out.new.items ≡ out.old.items ++ copy_text name.now code) }
 {
@@ -61,7 +61,7 @@ fn push_copy(out: &mut Vec<u8>, name: &[u8], code: Option<u8>) -> Result<(), All
     }
 }
 
-/// Adds the read error of a block in a dump of a file, if there are such.
+/// Appends the read error of a block in the dump of a file, or nothing if one of them is missing.
 fn push_error_of(
     out: &mut Vec<u8>,
     block: BlockNo,
@@ -76,7 +76,7 @@ fn push_error_of(
     }
 }
 
-/// Adds the read error of a block in the dump at a place, if there is one.
+/// Appends the read error of a block in the dump at a place, if there is one.
 fn push_error_at(
     out: &mut Vec<u8>,
     block: BlockNo,
@@ -94,7 +94,7 @@ fn push_error_at(
     )
 }
 
-/// Adds the read errors of a block in all dumps, by the names of their files.
+/// Appends the read errors of a block in all dumps, each after the name of its file.
 fn push_errors(
     out: &mut Vec<u8>,
     block: BlockNo,
@@ -109,7 +109,7 @@ fn push_errors(
     Ok(())
 }
 
-/// Adds the line of a block.
+/// Appends the line of a block.
 #[tactic(auto, unfolding(crate::specs::Lines::choice_text))]
 fn push_choice(
     out: &mut Vec<u8>,
@@ -127,7 +127,7 @@ fn push_choice(
     out.extend_from_slice(b"\n")
 }
 
-/// Adds the line of a block, where that isn't the same in all dumps.
+/// Appends the line of a block, unless the block is the same in all dumps.
 fn push_line(
     out: &mut Vec<u8>,
     names: &[String],
@@ -142,7 +142,7 @@ fn push_line(
     push_choice(out, names, dumps, choice)
 }
 
-/// Adds the lines of the blocks that aren't the same in all dumps.
+/// Appends the lines of the blocks that aren't the same in all dumps.
 #[tactic(auto, unfolding(crate::specs::Lines::lines_of_choices))]
 fn push_choices(
     out: &mut Vec<u8>,
@@ -158,7 +158,7 @@ fn push_choices(
     Ok(())
 }
 
-/// Adds of how many blocks something is said, if of any.
+/// Appends a number of blocks and a word for what became of them, or nothing if it is 0.
 #[tactic(auto, unfolding(crate::specs::Lines::count_if_any))]
 fn push_if_any(out: &mut Vec<u8>, count: usize, word: &[u8]) -> Result<(), AllocError>
     ensures { OnOk result (out.new.items ≡ out.old.items ++ count_if_any count word.now) }
@@ -171,7 +171,7 @@ fn push_if_any(out: &mut Vec<u8>, count: usize, word: &[u8]) -> Result<(), Alloc
     out.extend_from_slice(word)
 }
 
-/// Adds how many blocks are the same, taken, or lost.
+/// Appends how many blocks are the same in all dumps, taken, or lost.
 #[tactic(auto, unfolding(crate::specs::Lines::settled_text))]
 fn push_settled(out: &mut Vec<u8>, list: &[Choice]) -> Result<(), AllocError>
     ensures { OnOk result (out.new.items ≡ out.old.items ++ settled_text list.now) }
@@ -182,7 +182,7 @@ fn push_settled(out: &mut Vec<u8>, list: &[Choice]) -> Result<(), AllocError>
     push_if_any(out, count_of(Outcome::Lost, list), b" lost")
 }
 
-/// Adds of how many good copies differ.
+/// Appends how many blocks whose good copies differ have each outcome.
 #[tactic(auto, unfolding(crate::specs::Lines::differing_text))]
 fn push_differing(out: &mut Vec<u8>, list: &[Choice]) -> Result<(), AllocError>
     ensures { OnOk result (out.new.items ≡ out.old.items ++ differing_text list.now) }
@@ -196,7 +196,7 @@ fn push_differing(out: &mut Vec<u8>, list: &[Choice]) -> Result<(), AllocError>
     push_if_any(out, count_of(Outcome::Conflict, list), b" in conflict")
 }
 
-/// Adds what became of the blocks, by numbers.
+/// Appends how many blocks have each outcome.
 fn push_counts(out: &mut Vec<u8>, list: &[Choice]) -> Result<(), AllocError>
     ensures { OnOk result (out.new.items ≡ out.old.items ++ counts_text list.now) }
 {
@@ -204,7 +204,7 @@ fn push_counts(out: &mut Vec<u8>, list: &[Choice]) -> Result<(), AllocError>
     push_differing(out, list)
 }
 
-/// What stands behind the number of tracks.
+/// Returns what is printed after the number of tracks: whether there are read codes.
 fn codes_text(with_codes: bool) -> &'static [u8]
     ensures { result.now ≡ codes_text with_codes }
 {
@@ -215,7 +215,7 @@ fn codes_text(with_codes: bool) -> &'static [u8]
     }
 }
 
-/// Adds how many tracks and blocks the dump has, and whether read codes.
+/// Appends how many tracks and blocks the dump has, and whether it has read codes.
 #[tactic(auto, unfolding(crate::specs::Lines::size_text))]
 fn push_size(
     out: &mut Vec<u8>,
@@ -231,7 +231,7 @@ fn push_size(
     out.extend_from_slice(b": ")
 }
 
-/// Adds the line of the file.
+/// Appends the line of the file that is made.
 #[tactic(auto, unfolding(crate::specs::Lines::first_line))]
 fn push_first(out: &mut Vec<u8>, summary: &Summary) -> Result<(), AllocError>
     ensures { OnOk result (out.new.items ≡ out.old.items ++ first_line summary.now.out.now summary.now.tracks summary.now.with_codes summary.now.list.now) }
@@ -243,7 +243,7 @@ fn push_first(out: &mut Vec<u8>, summary: &Summary) -> Result<(), AllocError>
     out.extend_from_slice(b"\n")
 }
 
-/// Adds the tracks of entries, each after a space.
+/// Appends the tracks of entries, each after a space.
 fn push_entries(out: &mut Vec<u8>, left: &[u8]) -> Result<(), AllocError>
     ensures { OnOk result (out.new.items ≡ out.old.items ++ flat_map listed_entry left.now) }
 {
@@ -254,7 +254,7 @@ fn push_entries(out: &mut Vec<u8>, left: &[u8]) -> Result<(), AllocError>
     Ok(())
 }
 
-/// Adds the line of what is left on other tracks.
+/// Appends the line of the tracks of G64 files that hold what the dump lacks.
 #[tactic(auto, unfolding(crate::specs::Lines::left_line))]
 fn push_left_line(out: &mut Vec<u8>, left: &[u8]) -> Result<(), AllocError>
     ensures { OnOk result (out.new.items ≡ out.old.items ++ left_line left.now) }
@@ -264,7 +264,7 @@ fn push_left_line(out: &mut Vec<u8>, left: &[u8]) -> Result<(), AllocError>
     out.extend_from_slice(b"\n")
 }
 
-/// Adds that line, if there is something.
+/// Appends that line, if there are such tracks.
 fn push_left(out: &mut Vec<u8>, left: &[u8]) -> Result<(), AllocError>
     ensures { OnOk result (out.new.items ≡ out.old.items ++ left_text left.now) }
 {
@@ -274,7 +274,7 @@ fn push_left(out: &mut Vec<u8>, left: &[u8]) -> Result<(), AllocError>
     push_left_line(out, left)
 }
 
-/// Adds a digest in hexadecimal digits.
+/// Appends a digest in hexadecimal digits.
 fn push_digits(out: &mut Vec<u8>, digest: &[u8; 32]) -> Result<(), AllocError>
     ensures { OnOk result (out.new.items ≡ out.old.items ++ encode_lower digest.now) }
 {
@@ -285,7 +285,7 @@ fn push_digits(out: &mut Vec<u8>, digest: &[u8; 32]) -> Result<(), AllocError>
     }
 }
 
-/// Adds the line of the digest of the file that was made, or that none was.
+/// Appends the line of the digest of the file that was made, or that none was written.
 fn push_digest(out: &mut Vec<u8>, digest: Option<&[u8; 32]>) -> Result<(), AllocError>
     ensures { OnOk result (out.new.items ≡ out.old.items ++ digest_text (option_map (λ d. d.now) digest.entry)) }
 {
@@ -299,7 +299,7 @@ fn push_digest(out: &mut Vec<u8>, digest: Option<&[u8; 32]>) -> Result<(), Alloc
     }
 }
 
-/// Adds all that is printed of a merge for people.
+/// Appends all that is printed of a merge for people.
 #[tactic(auto, unfolding(crate::specs::Lines::text_report))]
 pub(crate) fn push_report(
     out: &mut Vec<u8>,

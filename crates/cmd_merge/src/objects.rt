@@ -20,21 +20,24 @@ use std::alloc::AllocError;
 /// The most bytes of an entry's track: a number below 129, and `.5`.
 const ENTRY_LEN: usize = 5;
 
-/// What the summary says beside the choices.
+/// What the summary is printed from.
 #[derive(Clone, Copy)]
 pub(crate) struct Summary<'a> {
     /// The name of the file that is made.
     pub(crate) out: &'a [u8],
+    /// How many tracks the dump has.
     pub(crate) tracks: u8,
+    /// Whether the dump has read codes.
     pub(crate) with_codes: bool,
+    /// What becomes of each block.
     pub(crate) list: &'a [Choice],
     /// The entries of G64 files that hold what the dump lacks.
     pub(crate) left: &'a [u8],
-    /// The digest of the file that was made.
+    /// The digest of the file that was made, or None if none was.
     pub(crate) digest: Option<&'a [u8; 32]>,
 }
 
-/// The word for what became of a block.
+/// Returns the word for an outcome.
 fn outcome_word(outcome: Outcome) -> &'static str
     ensures { result.now ≡ outcome_word outcome }
 {
@@ -48,7 +51,7 @@ fn outcome_word(outcome: Outcome) -> &'static str
     }
 }
 
-/// The name of the file at a place, if there is a place.
+/// Returns the name of the file at a place, or None if there is no place.
 pub(crate) fn name_at(names: &[String], place: Option<usize>) -> Option<&String>
     ensures { option_map (λ name. string_bytes name.now) result ≡ name_at (map string_bytes names.now) place }
 {
@@ -99,7 +102,7 @@ fn put_code(writer: &mut Writer, code: Option<u8>) -> Result<(), AllocError>
     }
 }
 
-/// Prints an array of the read codes of a block, one a dump.
+/// Prints an array of the read codes of a block, one for each dump.
 fn put_codes(writer: &mut Writer, dumps: &[Dump], block: BlockNo) -> Result<(), AllocError>
     ensures before { writer.new.before ≡ writer.old.before }
     ensures tokens { OnOk result (writer.new.tokens ≡ writer.old.tokens ++ json_tokens (codes_value dumps.now block)) }
@@ -120,7 +123,7 @@ fn put_code_list(writer: &mut Writer, dumps: &[Dump], block: BlockNo) -> Result<
     put_codes(writer, dumps, block)
 }
 
-/// Adds the line of a block to a text.
+/// Appends the line of a block to a text.
 fn choice_json(
     scratch: &mut Scratch,
     names: &[String],
@@ -140,7 +143,7 @@ fn choice_json(
     Ok(text)
 }
 
-/// Adds the line of a block to a text, where that isn't the same in all dumps.
+/// Appends the line of a block to a text, unless the block is the same in all dumps.
 fn choice_line(
     scratch: &mut Scratch,
     names: &[String],
@@ -156,7 +159,7 @@ fn choice_line(
     choice_json(scratch, names, dumps, choice, out)
 }
 
-/// Adds the lines of the blocks that aren't the same in all dumps to a text.
+/// Appends the lines of the blocks that aren't the same in all dumps to a text.
 #[tactic(auto, unfolding(crate::specs::Objects::choice_lines))]
 pub(crate) fn choice_lines(
     scratch: &mut Scratch,
@@ -174,7 +177,7 @@ pub(crate) fn choice_lines(
     Ok(text)
 }
 
-/// The track of an entry of a G64, as `41` or `18.5`.
+/// Returns the track of an entry of a G64, as `41` or `18.5`.
 #[tactic(auto, unfolding(crate::specs::Objects::entry_text))]
 pub(crate) fn entry_text(entry: u8) -> ArrayString<ENTRY_LEN>
     ensures { result.bytes ≡ entry_text entry }
@@ -188,7 +191,8 @@ pub(crate) fn entry_text(entry: u8) -> ArrayString<ENTRY_LEN>
     text
 }
 
-/// Prints the file that is made, its tracks, whether it has read codes, and its blocks.
+/// Prints the name of the file that is made, how many tracks it has, whether it has read codes, and
+/// how many blocks.
 fn put_size(scratch: &mut Vec<u8>, writer: &mut Writer, summary: &Summary) -> Result<(), AllocError>
     ensures before { writer.new.before ≡ writer.old.before }
     ensures tokens { OnOk result (writer.new.tokens ≡ writer.old.tokens ++ member_tokens (size_members summary.now.out.now summary.now.tracks summary.now.with_codes summary.now.list.now)) }
@@ -199,7 +203,7 @@ fn put_size(scratch: &mut Vec<u8>, writer: &mut Writer, summary: &Summary) -> Re
     put_number(writer, "blocks", summary.list.len() as u64)
 }
 
-/// Prints of how many blocks an outcome came.
+/// Prints how many blocks have an outcome.
 fn put_count(writer: &mut Writer, outcome: Outcome, list: &[Choice]) -> Result<(), AllocError>
     ensures before { writer.new.before ≡ writer.old.before }
     ensures tokens { OnOk result (writer.new.tokens ≡ writer.old.tokens ++ member_tokens (count_member outcome list.now ∷ [])) }
@@ -211,7 +215,7 @@ fn put_count(writer: &mut Writer, outcome: Outcome, list: &[Choice]) -> Result<(
     )
 }
 
-/// Prints of how many blocks each outcome came.
+/// Prints how many blocks have each outcome other than `Same`.
 fn put_counts(writer: &mut Writer, list: &[Choice]) -> Result<(), AllocError>
     ensures before { writer.new.before ≡ writer.old.before }
     ensures tokens { OnOk result (writer.new.tokens ≡ writer.old.tokens ++ member_tokens (count_members list.now)) }
@@ -236,7 +240,7 @@ fn put_entries(writer: &mut Writer, left: &[u8]) -> Result<(), AllocError>
     writer.end_array()
 }
 
-/// Prints the member of what is left.
+/// Prints the member of the tracks of G64 files that hold what the dump lacks.
 fn put_left(writer: &mut Writer, left: &[u8]) -> Result<(), AllocError>
     ensures before { writer.new.before ≡ writer.old.before }
     ensures tokens { OnOk result (writer.new.tokens ≡ writer.old.tokens ++ member_tokens (left_members left.now)) }
@@ -245,7 +249,7 @@ fn put_left(writer: &mut Writer, left: &[u8]) -> Result<(), AllocError>
     put_entries(writer, left)
 }
 
-/// Prints the digest of the file that was made, or null.
+/// Prints the digest of the file that was made, or null if none was.
 fn put_digest(
     scratch: &mut Vec<u8>,
     writer: &mut Writer,
@@ -275,7 +279,7 @@ fn put_summary(
     put_digest(scratch, writer, summary.digest)
 }
 
-/// Adds the line of the summary to a text.
+/// Appends the line of the summary to a text.
 pub(crate) fn summary_json(
     scratch: &mut Scratch,
     summary: &Summary,

@@ -1,4 +1,4 @@
-//! `Readings`: the dumps that are merged, and what is said of files that are none.
+//! `Readings`: the dumps that are merged, and what is printed and reported of the other files.
 ghost use Rattle.std.specs.Prelude.{◌≡◌, Ok as read, Err as not_read, Some, None, ◌++◌, ◌∷◌, [], OnOk, length};
 ghost use Rattle.d64_g64.specs.DumpOf.{dump_of};
 ghost use Rattle.cmd_diff.specs.Differences.{contents_by, fault_line, printed_fault};
@@ -42,7 +42,7 @@ impl Model for Readings {
 }
 
 impl Readings {
-    /// Nothing was read.
+    /// Returns the readings before any file was read.
     pub fn new(alloc: Global) -> Readings
         ensures { result ≡ no_readings }
     {
@@ -63,7 +63,7 @@ impl Readings {
         self.complaint.is_empty()
     }
 
-    /// Adds a dump that was read of a file with these bytes.
+    /// Adds the dump of a file with these bytes.
     fn add_dump(&mut self, bytes: Vec<u8>, dump: Dump) -> Result<(), AllocError>
         ensures { OnOk result (self.new ≡ with_dump bytes.items dump self.old) }
     {
@@ -72,7 +72,7 @@ impl Readings {
         Ok(())
     }
 
-    /// Adds what is said of a file that isn't answered.
+    /// Adds what is printed and reported of a file that is no dump or cannot be read.
     fn add_fault(
         &mut self,
         form: DiffForm,
@@ -88,7 +88,7 @@ impl Readings {
         self.complaint.extend_from_slice(line.as_slice())
     }
 
-    /// Adds a file with these bytes: its dump, or what is said of it where it is none.
+    /// Adds a file with these bytes: its dump, or what is printed and reported if it is no dump.
     fn add_bytes(&mut self, form: DiffForm, name: &[u8], bytes: Vec<u8>) -> Result<(), AllocError>
         ensures { OnOk result (self.new ≡ with_bytes form name.now bytes.items (dump_of bytes.items) self.old) }
     {
@@ -100,8 +100,8 @@ impl Readings {
         }
     }
 
-    /// Adds a file of which this was read: its bytes, or the reason, if it is known, why it cannot
-    /// be read.
+    /// Adds a file with this name and what was read of it: its bytes, or the reason (None if
+    /// unknown) why it cannot be read.
     pub fn add(
         &mut self,
         form: DiffForm,

@@ -23,7 +23,8 @@ pub(crate) struct Plan {
     pub(crate) left: Vec<u8>,
 }
 
-/// What a merge of these readings makes of their blocks.
+/// Returns what becomes of the blocks of these readings, and what is left on other tracks of G64
+/// files.
 pub(crate) fn plan_of(alloc: Global, setup: &Setup, readings: &Readings) -> Result<Plan, AllocError>
     ensures list { IfOk result (λ plan. plan.list.items ≡ choices_of setup.now readings.now) }
     ensures left { IfOk result (λ plan. plan.left.items ≡ left_of setup.now readings.now) }
@@ -36,7 +37,8 @@ pub(crate) fn plan_of(alloc: Global, setup: &Setup, readings: &Readings) -> Resu
     }
 }
 
-/// The verdict on what becomes of the blocks.
+/// Returns the verdict on the blocks: amiss if one is lost, taken from the first good copy, or in
+/// conflict, and else clean.
 pub(crate) fn verdict_on(list: &[Choice]) -> Verdict
     ensures { result ≡ verdict_on list.now }
 {
@@ -74,7 +76,8 @@ fn print_in(
     }
 }
 
-/// Appends what is printed of a merge, with the digest of the file that was made, if one was.
+/// Appends what is printed of a merge, with the digest of the file that was made, or None if none
+/// was.
 pub(crate) fn print_report(
     scratch: &mut Scratch,
     setup: &Setup,

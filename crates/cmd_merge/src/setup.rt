@@ -9,7 +9,7 @@ use std::marker::Model;
 pub struct Setup {
     /// The file that is made, which must not be there.
     pub out: String,
-    /// What is to be done where good copies differ.
+    /// What is to be done if good copies differ.
     pub preference: Preference,
     /// Whether read codes are left out.
     pub plain: bool,

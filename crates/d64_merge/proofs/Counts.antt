@@ -16,7 +16,7 @@ so b = cond b 1 0
 counted : {X : Type 0} (p : X → Bool) (x : X) (xs : List X) → count_by p (x ∷ xs) ≡ so (p x) + count_by p xs
 counted p x xs = sum_by-cons (λ x. cond (p x) 1 0) x xs
 
--- no element passes, or none is counted
+-- if no element passes, none is counted, and the converse
 pub count_none : {X : Type 0} (p : X → Bool) (xs : List X) → All (λ x. p x ≡ false) xs → count_by p xs ≡ 0
 count_none p [] all = refl
 count_none p (x ∷ xs) all =
@@ -35,7 +35,7 @@ none_counted p (x ∷ xs) e =
     let c = counted p x xs in
     All-cons (λ x. p x ≡ false) x xs (zero (p x) (omega (arith, c, e))) (none_counted p xs (omega (arith, c, e)))
 
--- fewer pass a test that asks more
+-- no more elements pass a test than one that it implies
 less : (a b : Bool) → (a ≡ true → b ≡ true) → so a ≤ so b
 less true true h = omega arith
 less true false h = let wrong : false ≡ true = h refl in absurd (cc)
@@ -51,7 +51,7 @@ fewer p q h (x ∷ xs) =
     let r = fewer p q h xs in
     omega (arith, a, b, l, r)
 
--- where as many pass, the same pass
+-- if as many pass both, the same elements pass both
 also : (a b : Bool) → so b ≤ so a → b ≡ true → a ≡ true
 also true b e is = refl
 also false true e is = absurd (omega (arith, e))
@@ -67,7 +67,8 @@ tight p q h (x ∷ xs) e =
     let r = fewer p q h xs in
     All-cons (λ x. q x ≡ true → p x ≡ true) x xs (also (p x) (q x) (omega (arith, a, b, e, l, r))) (tight p q h xs (omega (arith, a, b, e, l, r)))
 
--- two tests that no element passes both, of those that pass a third
+-- two tests that imply a third, and of which no element passes both: together they count no more
+-- elements than the third
 both : (a b c : Bool) → (a ≡ true → c ≡ true) → (b ≡ true → c ≡ true) → (a ≡ true → b ≡ false) → so a + so b ≤ so c
 both true true c h k n = let wrong : true ≡ false = n refl in absurd (cc)
 both true false true h k n = omega arith
@@ -87,7 +88,7 @@ apart p q r h k n (x ∷ xs) =
     let rest = apart p q r h k n xs in
     omega (arith, a, b, c, here, rest)
 
--- the same number passes equal tests
+-- equal tests count the same number of elements
 pub same_count : {X : Type 0} (p q : X → Bool) → ((x : X) → p x ≡ q x) → (xs : List X) → count_by p xs ≡ count_by q xs
 same_count p q h [] = refl
 same_count p q h (x ∷ xs) =
@@ -97,7 +98,8 @@ same_count p q h (x ∷ xs) =
     let r = same_count p q h xs in
     omega (arith, a, b, l, r)
 
--- the first that passes is one of the list, and passes
+-- what holds of all elements holds of the first one that passes; if there is no first one, no
+-- element passes
 pub find_all : {X : Type 0} (p : X → Bool) (P : X → Type 0) (xs : List X) → All P xs → (x : X) → find p xs ≡ Some x → P x × (p x ≡ true)
 find_all p P [] all x is = absurd (cc)
 find_all {X} p P (y ∷ xs) all x is = go (find_all p P xs (All-tail P y xs all) x) (p y) refl is

@@ -26,7 +26,8 @@ use Rattle.d64_merge.proofs.OrderedBlocks.{bytes_in}
 use Rattle.d64_merge.proofs.MergedOrders.{outcome_is, counted_never}
 use Rattle.d64_merge.proofs.MergedBlocks.{place_cases, image_size, sector_is, code_is, became_of}
 
--- a test over equal dumps
+-- one of equal dumps passes a test exactly if the dump does; if so, the first one that passes is
+-- that dump
 any_equal : (p : DumpView → Bool) (n : ℕ) (dump : DumpView) → list_any p (replicate (suc n) dump) ≡ p dump
 any_equal p n dump = go (p dump) refl
   where
@@ -45,7 +46,7 @@ find_nowhere : (p : DumpView → Bool) (m : ℕ) (dump : DumpView) → p dump �
 find_nowhere p zero dump is = refl
 find_nowhere p (suc m) dump is = ap (λ (b : Bool). cond b (Some dump) (find p (replicate m dump))) is ∙ find_nowhere p m dump is
 
--- the place of the first of them that passes, and the dump there
+-- the dump at the place of the first one that passes, and how many pass
 placed_equal : (p : DumpView → Bool) (n : ℕ) (dump : DumpView) → p dump ≡ true → dump_at (replicate (suc n) dump) (position p (replicate (suc n) dump)) ≡ Some dump
 placed_equal p n dump is = found p (replicate (suc n) dump) ∙ find_equal p n dump is
 
@@ -62,7 +63,7 @@ count_nowhere p n dump is =
     let none : cond (p dump) 1 0 ≡ 0 = ap (λ (b : Bool). cond b 1 0) is in
     sum_by-replicate (λ (x : DumpView). cond (p x) 1 0) (suc n) dump ∙ ap (λ (k : ℕ). suc n * k) none ∙ omega arith
 
--- where no copy is good, it is taken all the same
+-- if equal dumps have no good copy of a block, the copy of that dump is taken
 lost_source : (block n : ℕ) (dump : DumpView) → has_block block dump ≡ true
     → dump_at (replicate (suc n) dump) (option_or (position (has_bad_checksum block) (replicate (suc n) dump)) (position (has_block block) (replicate (suc n) dump))) ≡ Some dump
 lost_source block n dump there =

@@ -8,11 +8,11 @@ same : (xs : List ℕ) → map (λ x. x) xs ≡ xs
 same [] = refl
 same (x ∷ xs) = ap (λ (ys : List ℕ). x ∷ ys) (same xs)
 
--- one number more
+-- the numbers up to n are those below n, and n itself
 pub range_more : (n : ℕ) → range_with_len 0 (n + 1) ≡ range_with_len 0 n ++ n ∷ []
 range_more n = sym (same (range_with_len 0 (n + 1))) ∙ map-range_with_len_more (λ x. x) 0 n n (omega arith) ∙ ap (λ (xs : List ℕ). xs ++ n ∷ []) (same (range_with_len 0 n))
 
--- the same of those that pass a test
+-- the same for the numbers that pass a test
 pub kept_more : (test : ℕ → Bool) (n : ℕ) (is_kept : Bool) (old new : List ℕ) → new ≡ old ++ (if is_kept then n ∷ [] else []) → is_kept ≡ test n
     → old ≡ filter test (range_with_len 0 n) → new ≡ filter test (range_with_len 0 (n + 1))
 kept_more test n is_kept old new is by so_far =

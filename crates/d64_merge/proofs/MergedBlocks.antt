@@ -64,7 +64,7 @@ placed_in block dumps p each some =
 good_is_there : (block : ℕ) (dump : DumpView) → is_good block dump ≡ true → has_block block dump ≡ true
 good_is_there block dump h = (both_true (has_block block dump) _ h).0
 
--- where some copies are good, one is
+-- if the number of good copies is not 0, some dump has a good copy
 some_good : (block : ℕ) (dumps : List DumpView) → good_count block dumps ≢ 0 → list_any (is_good block) dumps ≡ true
 some_good block dumps some = go (list_any (is_good block) dumps) refl
   where
@@ -72,7 +72,7 @@ some_good block dumps some = go (list_any (is_good block) dumps) refl
     go true is = is
     go false is = absurd (some (count_none (is_good block) dumps (passes_nowhere (is_good block) dumps is)))
 
--- a copy that wins is good: else none agrees with it
+-- a copy that wins is good: otherwise no copy agrees with it
 wins_good : (block : ℕ) (dumps : List DumpView) (dump : DumpView) → wins block dumps dump ≡ true → is_good block dump ≡ true
 wins_good block dumps dump h = go (is_good block dump) refl
   where
@@ -83,7 +83,7 @@ wins_good block dumps dump h = go (is_good block dump) refl
         let more = below _ _ h in
         absurd (omega (arith, none, more))
 
--- the place of the first dump that passes, or that none does
+-- the place of the first dump that passes, or that no dump does
 pub place_cases : (p : DumpView → Bool) (dumps : List DumpView)
     → ((i : ℕ) × (position p dumps ≡ Some i) × (list_any p dumps ≡ true)) ⊎ ((position p dumps ≡ None) × (list_any p dumps ≡ false))
 place_cases p dumps = elim (cases_lt (position_or_len p dumps) (length dumps)) [
@@ -241,7 +241,7 @@ no_error_in block dumps p each = ap (λ (d : Option DumpView). is_read_error (co
     go None is = refl
     go (Some dump) is = let told = find_all p (λ x. p x ≡ true → is_good block x ≡ true) dumps each dump is in good_has_no_error block dump (told.0 told.1)
 
--- where as many copies are good as there are dumps, each is
+-- if there are as many good copies as dumps, each copy is good
 all_counted : (p : DumpView → Bool) (dumps : List DumpView) → count_by p dumps ≡ length dumps → All (λ x. true ≡ true → p x ≡ true) dumps
 all_counted p dumps e = tight p (λ x. true) (λ x h. refl) dumps (e ∙ sym (each_counted dumps))
   where

@@ -21,14 +21,14 @@ use Rattle.d64_merge.proofs.Counts.{count_none, none_counted}
 use Rattle.d64_merge.proofs.Orders.{is_number, any_permuted, same_outcome, outcome_by}
 use Rattle.d64_merge.proofs.OrderedBlocks.{bytes_in, good_bytes, winner_bytes, not_none}
 
--- where good copies differ, the outcome is one of three
+-- if good copies differ, the outcome is one of three
 pub apart_is : (other : Outcome) → (is_outcome Majority other ≡ false) → (is_outcome First other ≡ false) → (is_outcome Conflict other ≡ false)
     → (m f : Bool) → (if m then Majority else (if f then First else Conflict)) ≡ other → ⊥
 apart_is other a b c true f is = let wrong : true ≡ false = ap (is_outcome Majority) is ∙ a in cc
 apart_is other a b c false true is = let wrong : true ≡ false = ap (is_outcome First) is ∙ b in cc
 apart_is other a b c false false is = let wrong : true ≡ false = ap (is_outcome Conflict) is ∙ c in cc
 
--- what an outcome says of what is counted
+-- what an outcome says of the counts of copies
 pub tells_same : (preference : Preference) (none equal all winner : Bool) → outcome_by preference none equal all winner ≡ Same → (none ≡ false) × (equal ≡ true) × (all ≡ true)
 tells_same preference true equal all winner is = absurd (cc)
 tells_same preference false true true winner is = (refl, refl, refl)
@@ -54,7 +54,7 @@ tells_majority preference false true true winner is = absurd (cc)
 tells_majority preference false true false winner is = absurd (cc)
 tells_majority preference false false all winner is = winner_of preference.majority winner preference.first is
 
--- the outcome by what is counted
+-- the outcome, by the counts of copies
 pub outcome_is : (preference : Preference) (block : ℕ) (dumps : List DumpView)
     → outcome preference block dumps ≡ outcome_by preference (good_count block dumps == 0) (are_equal block dumps) (good_count block dumps == length dumps) (list_any (wins block dumps) dumps)
 unfolding outcome
@@ -101,7 +101,7 @@ pub same_map : {X Y : Type 0} (f g : X → Y) (xs : List X) → All (λ x. f x �
 same_map f g [] all = refl
 same_map f g (x ∷ xs) all = ap₂ (λ a b. a ∷ b) (All-head (λ x. f x ≡ g x) x xs all) (same_map f g xs (All-tail (λ x. f x ≡ g x) x xs all))
 
--- of no block this became, by the blocks
+-- no block has this outcome, block by block
 abbrev IsNever : Outcome → Preference → List DumpView → Type 0
 IsNever became preference dumps = All (λ block. is_outcome became (choice preference dumps block).outcome ≡ false) (range_with_len 0 (block_count dumps))
 

@@ -14,11 +14,11 @@ use Rattle.d64_merge.proofs.Counts.{count_none, apart, find_all, find_none, foun
 use Rattle.d64_merge.proofs.Agreements.{agreeing, agree_by}
 use Rattle.d64_merge.proofs.Orders.{each_equal, same_good_count, same_wins, none_passes}
 
--- the bytes of a block in a dump; no bytes where there is none
+-- the bytes of a block in a dump; empty if there is no dump
 abbrev pub bytes_in : ℕ → Option DumpView → List ℕ
 bytes_in block dump = option_map_or (λ (dump : DumpView). sector_at dump.image block) dump []
 
--- a number is below another one
+-- a number that a test finds less than another one is less
 pub below : (a b : ℕ) → nat_lt a b ≡ true → a < b
 below a b h = elim (cases_lt a b) [ inl less ↦ less | inr more ↦ let wrong : true ≡ false = sym h ∙ le-ltb a b more in absurd (cc) ]
 
@@ -26,7 +26,7 @@ pub not_none : (n : ℕ) → (n == 0) ≡ false → n ≢ 0
 not_none n h is = let wrong : true ≡ false = sym (ap (λ (m : ℕ). m == 0) is) ∙ h in absurd (cc)
 
 module _ (block : ℕ) (dumps others : List DumpView) (perm : IsPermutation dumps others) where
-  -- the first good copies, where all are equal
+  -- the first good copies in both orders have equal bytes, if all good copies are equal
   good_bytes_by : (first other : Option DumpView) → find (is_good block) dumps ≡ first → find (is_good block) others ≡ other
       → option_map_or (λ dump. votes block dumps dump == good_count block dumps) first true ≡ true → good_count block dumps ≢ 0
       → bytes_in block other ≡ bytes_in block first
@@ -46,7 +46,7 @@ module _ (block : ℕ) (dumps others : List DumpView) (perm : IsPermutation dump
       (sym (ap (λ (dump : Option DumpView). option_map_or (λ dump. votes block dumps dump == good_count block dumps) dump true) (found (is_good block) dumps)) ∙ h) some
       ∙ ap (bytes_in block) (sym (found (is_good block) dumps))
 
-  -- two copies that win are equal: else there were more good copies than there are
+  -- two copies that win are equal: otherwise there would be more good copies than there are
   two_winners : (one other : DumpView) → wins block dumps one ≡ true → wins block dumps other ≡ true → (agrees : Bool) → agree block one other ≡ agrees
       → sector_at one.image block ≡ sector_at other.image block
   two_winners one other a b true is = (agreeing block one other is).2

@@ -18,11 +18,11 @@ use Rattle.d64_merge.specs.declared.outcome.Outcome.TheVariants.{Same, Taken, Lo
 use Rattle.d64_merge.proofs.Counts.{tight, same_count, find_all, find_none, found}
 use Rattle.d64_merge.proofs.Agreements.{agreeing, agree_by}
 
--- a number is this one
+-- numbers that a test finds equal are equal
 pub is_number : (a b : ℕ) → nat_eq a b ≡ true → a ≡ b
 is_number a b h = elim (eqb_tells a b) [ inl is ↦ is.1 | inr other ↦ let wrong : true ≡ false = sym h ∙ other.0 in absurd (cc) ]
 
--- an element that passes, and none that does
+-- if each element fails a test, the list has no element that passes it, and the converse
 pub none_passes : {X : Type 0} (p : X → Bool) (xs : List X) → All (λ x. p x ≡ false) xs → list_any p xs ≡ false
 none_passes p [] all = refl
 none_passes p (x ∷ xs) all =
@@ -36,7 +36,7 @@ passes_nowhere {X} p (x ∷ xs) h = go (passes_nowhere p xs) (p x) refl h
     go later true t h = absurd (cc)
     go later false t h = All-cons (λ x. p x ≡ false) x xs t (later h)
 
--- two tests that pass each other are the same
+-- two truth values that imply each other are equal
 pub same_truth : (a b : Bool) → (a ≡ true → b ≡ true) → (b ≡ true → a ≡ true) → a ≡ b
 same_truth true b h k = sym (h refl)
 same_truth false true h k = k refl
@@ -47,7 +47,7 @@ same_falsehood false b h k = sym (h refl)
 same_falsehood true false h k = k refl
 same_falsehood true true h k = refl
 
--- whether an element passes doesn't depend on the order
+-- whether some element passes doesn't depend on the order
 pub any_permuted : {X : Type 0} (p : X → Bool) (xs ys : List X) → IsPermutation xs ys → list_any p xs ≡ list_any p ys
 any_permuted p xs ys perm =
     same_falsehood (list_any p xs) (list_any p ys)
@@ -64,7 +64,7 @@ same_votes block dumps one other a b same =
     (λ h. let is = agreeing block other x h in agree_by block one x a is.1 (same ∙ is.2)))
     dumps
 
--- where as many agree with a copy as are good, each good one is equal to it
+-- if as many copies agree with a copy as are good, each good one agrees with it
 pub each_equal : (block : ℕ) (dumps : List DumpView) (dump : DumpView) → nat_eq (votes block dumps dump) (good_count block dumps) ≡ true
     → All (λ x. is_good block x ≡ true → agree block dump x ≡ true) dumps
 each_equal block dumps dump h =
@@ -77,7 +77,7 @@ module _ (block : ℕ) (dumps others : List DumpView) (perm : IsPermutation dump
   pub same_votes_of : (dump : DumpView) → votes block others dump ≡ votes block dumps dump
   same_votes_of dump = sum_by-IsPermutation (λ x. cond (agree block dump x) 1 0) dumps others perm
 
-  -- the first good copy of the others, where that of the dumps is known
+  -- the good copies of the others are equal if those of the dumps are, by the first ones of both
   equal_by : (first other : Option DumpView) → find (is_good block) dumps ≡ first → find (is_good block) others ≡ other
       → option_map_or (λ dump. votes block dumps dump == good_count block dumps) first true ≡ true
       → option_map_or (λ dump. votes block others dump == good_count block others) other true ≡ true

@@ -24,8 +24,8 @@ abbrev pub are_equal : ℕ → List DumpView → Bool
 are_equal block dumps =
     option_map_or (λ dump. votes block dumps dump == good_count block dumps) (dump_at dumps (first_good block dumps)) true
 
--- good copies differ: more than half of them are equal, if that is to count, else the first one is
--- taken, if that is wanted
+-- what becomes of a block whose good copies differ: by majority, if that is preferred and more than
+-- half of them are equal; else from the first one, if that is preferred; else in conflict
 abbrev pub outcome_apart : Preference → ℕ → List DumpView → Outcome
 outcome_apart preference block dumps =
     if preference.majority && list_any (wins block dumps) dumps then Majority
@@ -54,8 +54,8 @@ source Conflict block dumps = None
 abbrev pub has_codes : DumpView → Bool
 has_codes dump = is_some dump.codes
 
--- the place of the dump whose read code the block gets: that of the copy that is taken; if all dumps
--- have the same copy, the first dump that has codes
+-- the place of the dump whose read code the block gets: that of the copy that is taken; if all
+-- dumps have the same copy, the first dump that has codes
 unfoldable pub code_source : Outcome → ℕ → List DumpView → Option ℕ
 code_source Same block dumps = position has_codes dumps
 code_source Taken block dumps = source Taken block dumps

@@ -33,8 +33,8 @@ abbrev pub EqualDumpsMakeThatDump : Type 0
 EqualDumpsMakeThatDump =
     (preference : Preference) (dump : DumpView) (count : ℕ) → IsDump dump → merged preference false (replicate (suc count) dump) ≡ Some dump
 
--- if no block is lost or taken from the first good copy, the blocks don't depend on the order of the
--- dumps
+-- if no block is lost or taken from the first good copy, the blocks don't depend on the order of
+-- the dumps
 abbrev pub OrderDoesNotMatter : Type 0
 OrderDoesNotMatter =
     (preference : Preference) (plain : Bool) (dumps others : List DumpView) (made : DumpView)

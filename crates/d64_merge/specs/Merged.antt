@@ -15,7 +15,7 @@ use Rattle.d64_merge.specs.declared.outcome.Outcome.TheVariants.{Same, Taken, Lo
 abbrev pub has_40_tracks : DumpView → Bool
 has_40_tracks dump = tracks_of (length dump.image) == 40
 
--- how many tracks the merged dump has: 40 if a dump has, else 35
+-- how many tracks the merged dump has: 40 if a dump has 40, else 35
 abbrev pub merged_tracks : List DumpView → ℕ
 merged_tracks dumps = if list_any has_40_tracks dumps then 40 else 35
 
@@ -53,7 +53,7 @@ merged_image dumps list = map (taken_bytes dumps) list
 abbrev pub merged_codes : List Choice → Bytes
 merged_codes list = map (λ (choice : Choice). choice.code) list
 
--- a dump has read codes, and they are wanted
+-- a dump has read codes, and they are not left out
 abbrev pub keeps_codes : Bool → List DumpView → Bool
 keeps_codes plain dumps = not plain && list_any has_codes dumps
 

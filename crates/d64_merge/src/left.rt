@@ -34,7 +34,8 @@ fn is_missing(list: &[Choice], track: u8, sector: u8) -> bool
     }
 }
 
-/// Whether an entry of a file holds such a block, with its data.
+/// Whether an entry of a file holds, with its data, a block that was lost or that the merged dump
+/// hasn't.
 fn holds_missing(
     alloc: Global,
     list: &[Choice],

@@ -11,9 +11,9 @@ use d64_survey::Dump;
 /// What is to be done with a block whose good copies differ.
 #[derive(Clone, Copy, Debug, PartialEq, Eq)]
 pub struct Preference {
-    /// Those are taken that are equal to more than half of the good ones.
+    /// Whether a copy is taken that is equal to more than half of the good ones.
     pub majority: bool,
-    /// Else the first one is taken.
+    /// Whether otherwise the first good copy is taken.
     pub first: bool,
 }
 
@@ -81,7 +81,7 @@ fn outcome_apart(preference: Preference, dumps: &[Dump], block: BlockNo) -> Outc
     }
 }
 
-/// What becomes of a block.
+/// Returns what becomes of a block.
 #[tactic(auto, unfolding(crate::specs::Choices::outcome))]
 pub(crate) fn outcome_of(preference: Preference, dumps: &[Dump], block: BlockNo) -> Outcome
     ensures { result ≡ outcome preference block dumps.now }

@@ -32,7 +32,7 @@ form_of format leftovers = record { format = format; leftovers = leftovers }
 abbrev pub setup_of : RequestedExtraction → Form → SetupView
 setup_of requested form = record { into = string_bytes requested.into; with_parts = requested.part; skips = requested.skip_existing; form = form }
 
--- what a merge of these files is asked for by the words, in a form of the output
+-- what a merge of these files is asked for by the arguments, in a form of the output
 abbrev pub merge_setup_of : AskedMerging → DiffForm → List (List ℕ) → MergeView
 merge_setup_of requested form files = record {
   out = string_bytes requested.output;
@@ -42,10 +42,10 @@ merge_setup_of requested form files = record {
   names = files;
 }
 
--- what a job does: it runs a script of some source in a manner, from a beginning; runs a tool on
+-- what a job does: it runs a script of some source with options, from a beginning; runs a tool on
 -- the input, or on the host file of a name, to the output, or to the host file of a second name;
--- surveys files, by a rule, with what stands before all answers; unpacks files, as is asked for,
--- with what stands before all answers; compares the files of two names, by a rule; or merges files
+-- surveys files, by a rule, with a heading before all results; unpacks files, as is asked for, with
+-- a heading before all results; compares the files of two names, by a rule; or merges files
 pub data JobWork : Type 0 where
   Script : Beginning → Source → RunOptions → JobWork
   Conversion : Tool → Option (List ℕ) → Option (List ℕ) → JobWork

@@ -6,7 +6,7 @@ use cmd_merge::Setup;
 use d64_merge::Preference;
 use program_arguments::{DiffForm, Merging};
 
-/// What a merge of these files is asked for by the words, in a form of the output.
+/// Returns what a merge of these files is asked for by the arguments, in a form of the output.
 pub(crate) fn merge_setup_of(requested: Merging, form: DiffForm, files: Vec<String>) -> Setup
     ensures { result ≡ merge_setup_of requested form (map string_bytes files.items) }
 {

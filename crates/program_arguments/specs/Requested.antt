@@ -107,11 +107,12 @@ IsJobOf met (Merge merging format files) =
     × (map string_bytes files.items ≡ files_by met.1) × (files_by met.1 ≢ [])
 IsJobOf met (Catalogue page names) = (met.0 ≡ codes "catalogue") × IsPageBy met.1 page × IsNamesBy met.1 names
 
--- it asks for no job, since its start is no address, or no disk has its number of tracks; or, where
--- a disk has so many, since a session of a file has tracks of its own; or since its word for a form
--- of output stands for none; or, where it has a form, since the name of its folder is empty; or
--- since its page has an empty title, or else an empty folder of links; or since nothing says which
--- file a merge makes, or else of which files; or else since there are no names; or there is no memory
+-- it asks for no job, since its start is no address, or no disk has its number of tracks; or, if a
+-- disk has this number, since a session of a file has tracks of its own; or since its argument for
+-- a form of output is the name of no form; or, if it has a form, since the name of its folder is
+-- empty; or since its page has an empty title, or else an empty folder of links; or since no
+-- argument says which file a merge makes, or else of which files; or else since there are no names;
+-- or memory ran out
 abbrev pub IsFaultOf : Met → JobFault → Type 0
 IsFaultOf met (Words error) = ⊥
 IsFaultOf met Start = (met.0 ≡ codes "crunch") × HasNoAddress (first_of (codes "start") met.1)

@@ -13,7 +13,7 @@ use crate::values::{has_flag, value, values};
 use clap::ArgMatches;
 use std::alloc::Global;
 
-/// The job that `merge` with these matches asks for.
+/// Returns the job that `merge` with these matches asks for.
 pub(crate) fn merge_job(alloc: Global, arguments: &ArgMatches) -> Result<Job, JobFault>
     ensures job { IfOk result (IsJobOf (codes "merge", rows_of (found_of arguments.now))) }
     ensures fault { IfErr result (IsFaultOf (codes "merge", rows_of (found_of arguments.now))) }
@@ -26,7 +26,7 @@ pub(crate) fn merge_job(alloc: Global, arguments: &ArgMatches) -> Result<Job, Jo
     })
 }
 
-/// How the words want one dump made.
+/// Returns the options of a merge; an error is `Output` if `--output` is missing, or `Memory`.
 fn merging(alloc: Global, arguments: &ArgMatches) -> Result<Merging, JobFault>
     ensures merging { IfOk result (IsMergingBy (rows_of (found_of arguments.now))) }
     ensures fault { IfErr result (λ fault. (fault ≡ no_memory) ⊎ ((fault ≡ no_output) × (first_of (codes "output") (rows_of (found_of arguments.now)) ≡ None))) }
@@ -42,7 +42,7 @@ fn merging(alloc: Global, arguments: &ArgMatches) -> Result<Merging, JobFault>
     }
 }
 
-/// The files of the dumps, one or more.
+/// Returns the files of the dumps, one or more; an error is `Dumps` if there are none, or `Memory`.
 fn dumps(alloc: Global, arguments: &ArgMatches) -> Result<Vec<String>, JobFault>
     ensures files { IfOk result (λ files. map string_bytes files.items ≡ files_by (rows_of (found_of arguments.now))) }
     ensures some { IfOk result (λ files. files_by (rows_of (found_of arguments.now)) ≢ []) }

@@ -23,7 +23,7 @@ reads_next form name names old middle new begun between read first rest =
     let last = first.3 in
     (first.0, first.1, first.2, subst (λ (host : HostState). ReadsFiles form names host (with_file form name first.0 begun) new read) last.0 (subst (λ (r : ReadingsView). ReadsFiles form names middle r new read) last.1 rest))
 
--- of files from a place on, one was read, and then the others
+-- of the files from a place on, one was read, and then the others
 pub files_left : {Z : Type 0} (form : DiffForm) (names : List (String Z)) (place : ℕ) (name : String Z) (old middle new : HostState) (begun between read : ReadingsView)
     → place < length names → name ≡ slice_index_or names place name
     → ReadsFiles form (string_bytes name ∷ []) old begun middle between → ReadsFiles form (map string_bytes (drop (place + 1) names)) middle between new read
@@ -41,7 +41,7 @@ unfolding ReadsFiles
 no_files_left form names place host readings past =
     subst (λ (xs : List _). ReadsFiles form (map string_bytes xs) host readings host readings) (sym (drop_all place names past)) (refl, refl)
 
--- the files were read, and there was no memory to say what became of them
+-- the files were read, and then memory ran out
 pub so_far : (setup : SetupView) (bytes : Option (List ℕ)) (old middle new : HostState) → middle.files ≡ old.files → MayHaveMade setup bytes middle new → CameSoFar setup old new
 so_far setup None old middle new files is = (middle, files, inl is)
 so_far setup (Some bytes) old middle new files is = elim is [ inl same ↦ (middle, files, inl same) | inr made ↦ (middle, files, inr (bytes, made.0, made.1)) ]

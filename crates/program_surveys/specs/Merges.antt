@@ -23,32 +23,34 @@ ReadsFiles form [] old begun new read = (new ≡ old) × (read ≡ begun)
 ReadsFiles form (name ∷ names) old begun new read =
     (contents : Contents) × (middle : HostState) × IsReadAs name old contents middle × ReadsFiles form names middle (with_file form name contents begun) new read
 
--- all files were read, and the merge ended with this answer
+-- all files were read, and the merge ended with this result
 pub record MergesRead (setup : SetupView) (old : HostState) (answer : Answer) (new : HostState) : Type 0 where
   pub middle : HostState
   pub readings : ReadingsView
   pub read : ReadsFiles setup.form setup.names old no_readings middle readings
   pub finished : Finishes setup readings middle answer new
 
--- the file that is to be made was looked for: it was there, and nothing else was done; or it wasn't
+-- the file that is to be made was looked for: it was there, and nothing else was done; or it was
+-- not there, and the files were merged
 abbrev pub AnswersMerge : SetupView → HostState → Answer → HostState → Type 0
 AnswersMerge setup old answer new =
     (there : Bool) × Looks old.files setup.out there × MatchBool there ((new ≡ old) × (answer ≡ present_answer setup)) (MergesRead setup old answer new)
 
--- how far it came where there was no memory: no file was changed, but that the one to be made may
--- have been, whole
+-- how far a merge came if memory ran out: no file was changed, except that the one to be made may
+-- have been made, whole
 abbrev pub CameSoFar : SetupView → HostState → HostState → Type 0
 CameSoFar setup old new =
     (middle : HostState) × (middle.files ≡ old.files)
     × ((new ≡ middle) ⊎ ((bytes : List ℕ) × (result : Result (Unit {0}) FolderFault) × IsMade setup.out bytes middle result new))
 
--- how a merge ends: its answer was told, or the output failed while it was, or there was no memory
+-- how a merge ends: its result was written, or the output failed while it was written, or memory
+-- ran out and nothing was written
 abbrev pub Merges : {A : Type 0} → SetupView → RunState → RunState → Result A DifferenceFault → Type 0
 Merges setup first last (Ok done) = (answer : Answer) × AnswersMerge setup first.host answer last.host × IsReported answer first.reported last.reported
 Merges setup first last (Err Write) = (answer : Answer) × AnswersMerge setup first.host answer last.host × IsCut answer first.reported last.reported
 Merges setup first last (Err Memory) = CameSoFar setup first.host last.host × (last.reported ≡ first.reported)
 
--- a merge has ended, for which nothing of the input was read
+-- a merge has ended, which read nothing of the input
 pub record EndedMerge (setup : SetupView) (old new : Outside) (faults reported : Account) (status : ℕ) : Type 0 where
   pub ended : Result (Unit {0}) DifferenceFault
   pub last : RunState

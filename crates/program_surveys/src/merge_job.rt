@@ -1,4 +1,4 @@
-//! The run of `merge`: one file of the dumps of several.
+//! The run of `merge`: one file, made of the dumps of several files.
 ghost use Rattle.std.specs.Prelude.{◌≡◌, ◌≤◌, ℕ, List, Option, IfErr, IfOk, OnOk, [], ◌∷◌, map, string_bytes, true, false};
 ghost use Rattle.script_text.specs.Input.{Reading};
 ghost use Rattle.program_batch.specs.Answers.{answer_of};
@@ -24,7 +24,7 @@ pub struct MergeJob<'n> {
 }
 
 impl<'n> MergeJob<'n> {
-    /// A merge that is asked for so.
+    /// Returns a merge with this setup.
     pub fn new(alloc: Global, setup: &'n Setup) -> MergeJob<'n>
         ensures { result.setup.now ≡ setup.now }
     {
@@ -32,10 +32,9 @@ impl<'n> MergeJob<'n> {
     }
 
     /// Reads all files, makes the file of their merged dump, prints what became of its blocks, and
-    /// returns the exit status: 0 where each block has a good copy, 1 where one is lost, taken from
-    /// the first good copy, or in conflict, and 2 where the file is there already or cannot be
-    /// made, one of the others is no dump or cannot be read, the output takes no more bytes, or
-    /// memory is wanting.
+    /// returns the exit status: 1 if a block is lost, taken from the first good copy, or in
+    /// conflict; 2 if the file is there already or cannot be made, one of the others is no dump or
+    /// cannot be read, the output takes no more bytes, or memory runs out; and else 0.
     pub fn run<W: Write, F: Write, H: Host>(
         &self,
         output: &mut OutputStream<'_, W>,
@@ -61,7 +60,7 @@ impl<'n> MergeJob<'n> {
         }
     }
 
-    /// Merges the files, and tells of it at a desk.
+    /// Merges the files, and writes the result.
     fn merge<W: Write, F: Write, H: Host>(
         &self,
         batch: &mut Batch,
@@ -83,10 +82,10 @@ impl<'n> MergeJob<'n> {
         Ok(())
     }
 
-    /// Looks for the file that is to be made, reads the others, makes it, and puts into the room
-    /// what is said.
+    /// Merges the files, unless the one that is to be made is there already, and replaces the
+    /// buffer's contents by the result.
     ///
-    /// It is a call of its own: each job would else take room for the dumps.
+    /// It is a function of its own: otherwise each job would take memory for the dumps.
     #[inline(never)]
     fn answer<H: Host>(
         &self,
@@ -109,7 +108,7 @@ impl<'n> MergeJob<'n> {
         }
     }
 
-    /// Reads the files of these names.
+    /// Reads the files with these names, in their order.
     fn read_all<H: Host>(
         &self,
         names: &[String],
@@ -126,7 +125,7 @@ impl<'n> MergeJob<'n> {
         Ok(())
     }
 
-    /// Reads one of them.
+    /// Reads the file with this name.
     fn read_one<H: Host>(
         &self,
         name: &String,

@@ -6,7 +6,7 @@ use Rattle.d64_scratched.specs.declared.loss.Loss.TheVariants.{Chain, Reused, Ma
 use Rattle.script_text.specs.declared.status.Status.{Status}
 use Rattle.script_text.specs.declared.status.Status.TheVariants.{FileLost}
 
--- the words for a reason
+-- the text for a reason; empty for a reason for which no file is lost
 unfoldable pub loss_text : Loss → Bytes
 loss_text Chain = codes ": its chain of blocks is broken"
 loss_text Reused = codes ": a block of it was used again"
@@ -19,7 +19,7 @@ loss_text Unreadable = []
 unfoldable pub lost_about : Bytes → Bytes → Loss → Bytes
 lost_about start name loss = ((((start ++ codes "what was deleted as \"") ++ name) ++ codes "\" is lost") ++ loss_text loss) ++ codes "\n"
 
--- a line that says so, where the status is that of such a file
+-- a line that says so, if the status is that of such a file
 abbrev pub IsLostLine : Bytes → Bytes → Status → Bytes → Type 0
 IsLostLine start name FileLost line = (loss : Loss) × (line ≡ lost_about start name loss)
 IsLostLine start name status line = ⊥

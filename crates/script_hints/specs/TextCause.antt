@@ -47,8 +47,7 @@ IsFoundLine host start name status line = (cause : Cause) × IsFoundCause host n
 abbrev pub IsCauseLine : HostState → Bytes → Bytes → Status → Bytes → Type 0
 IsCauseLine host start name status line = IsFoundLine host start name status line ⊎ IsLostLine start name status line
 
--- what may be said of a line of these words that was refused with a status, after a start: what is
--- found to be wrong with its text or its deleted file; in place of that, and of all other lines, the
--- advice
+-- what may be said, after a start, of a line with this command and these arguments that was refused
+-- with a status: what is found to be wrong with its text or its deleted file, or the advice
 abbrev pub MaySay : HostState → Bytes → Said → Status → Bytes → Type 0
 MaySay host start said status line = IsCauseLine host start said.first status line ⊎ (line ≡ start ++ advice_words said (advice said status))

@@ -45,14 +45,14 @@ fn lost_about(alloc: Global, start: &[u8], name: &[u8], loss: Loss) -> Result<Ve
     Ok(line)
 }
 
-/// Appends the words for a reason.
+/// Appends the text for a reason.
 fn push_loss(line: &mut Vec<u8>, loss: Loss) -> Result<(), AllocError>
     ensures { OnOk result (line.new.items ≡ line.old.items ++ loss_text loss) }
 {
     line.extend_from_slice(loss_text(loss))
 }
 
-/// The words for a reason.
+/// Returns the text for a reason.
 #[tactic(auto, unfolding(crate::specs::Lost::loss_text))]
 fn loss_text(loss: Loss) -> &'static [u8]
     ensures { result.now ≡ loss_text loss }

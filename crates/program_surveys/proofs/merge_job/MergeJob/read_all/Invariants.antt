@@ -5,7 +5,7 @@ use Rattle.cmd_merge.specs.Reports.{ReadingsView}
 use Rattle.program_surveys.specs.Merges.{ReadsFiles}
 use Rattle.program_surveys.proofs.merge_job.MergeJob.read_all.Given as goal
 
--- whatever comes of the files that are left, comes of all
+-- reading the files that are left ends as reading all files does
 abbrev pub invariant-loop-name : goal.invariant-loop-name
 invariant-loop-name g l = record {
   read : (new : HostState) (read : ReadingsView) → ReadsFiles l.self.setup.now.form (map string_bytes (drop l.name-index l.names)) (g.H.Host.state l.host) l.readings new read

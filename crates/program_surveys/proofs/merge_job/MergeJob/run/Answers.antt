@@ -14,7 +14,7 @@ returns-in-Err-Write-clause-ended g c = λ reader reading.
     (reported_of (account_at g.W.Write.contents c.args.output.now) (account_at g.F.Write.contents c.args.faults.now) w)) c.new-batch.ensures)
     (rw is at c.merge.ensures.merged) refl refl refl (search rules)
 
--- there was no memory
+-- memory ran out
 pub returns-clause-ended : goal.returns-clause-ended
 returns-clause-ended g c = λ reader reading.
     let is : c.merge.result ≡ Err Memory = search rules in
@@ -23,7 +23,7 @@ returns-clause-ended g c = λ reader reading.
     (reported_of (account_at g.W.Write.contents c.args.output.now) (account_at g.F.Write.contents c.args.faults.now) w)) c.new-batch.ensures)
     (rw is at c.merge.ensures.merged) refl refl refl (search rules)
 
--- it was told to its end
+-- the result was written to its end
 pub returns-in-Ok-clause-ended : goal.returns-in-Ok-clause-ended
 returns-in-Ok-clause-ended g c = λ reader reading.
     let is : c.merge.result ≡ Ok c.in-Ok.field-0 = search rules in
