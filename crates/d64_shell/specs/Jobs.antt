@@ -7,7 +7,7 @@ use Rattle.script_run.specs.Transcript.{RunOptions}
 use Rattle.cmd_basic.specs.declared.tools.Tool.{Tool}
 use Rattle.program_arguments.specs.declared.requested.Job.TheVariants.{Shell, Petcat, Crunch, Check, Files, Extract, Map, Catalogue, Diff, Merge}
 use Rattle.program_arguments.specs.declared.requested.Extraction.{Extraction as RequestedExtraction}
-use Rattle.program_arguments.specs.declared.requested.Merging.{Merging as AskedMerging}
+use Rattle.program_arguments.specs.declared.requested.Merging.{Merging as RequestedMerging}
 use Rattle.program_arguments.specs.declared.requested.DiffForm.{DiffForm}
 use Rattle.program_arguments.specs.declared.requested.Format.{Format}
 use Rattle.program_arguments.specs.declared.requested.Leftovers.{Leftovers}
@@ -33,7 +33,7 @@ abbrev pub setup_of : RequestedExtraction → Form → SetupView
 setup_of requested form = record { into = string_bytes requested.into; with_parts = requested.part; skips = requested.skip_existing; form = form }
 
 -- what a merge of these files is asked for by the arguments, in a form of the output
-abbrev pub merge_setup_of : AskedMerging → DiffForm → List (List ℕ) → MergeView
+abbrev pub merge_setup_of : RequestedMerging → DiffForm → List (List ℕ) → MergeView
 merge_setup_of requested form files = record {
   out = string_bytes requested.output;
   preference = record { majority = requested.majority; first = requested.first };
