@@ -81,7 +81,7 @@ host_name taken row extent = next_name taken (spelling (name_in row.field)) (end
 abbrev pub pair_stem : ℕ × ℕ → List ℕ
 pair_stem pair = decimal pair.0 ++ (codes "-" ++ decimal pair.1)
 
--- the name of an orphan in text form: that which an old slot tells, else its first block
+-- the name of an orphan in text form: that in an old slot, or else its first block
 abbrev pub orphan_stem : ℕ → Option OldSlot → List ℕ
 orphan_stem first None = pair_stem (pair_at first)
 orphan_stem first (Some old) = spelling (name_in old.field)

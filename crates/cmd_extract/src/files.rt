@@ -73,8 +73,8 @@ fn take_name(
     taken.take(text, ending, is_part(extent), name)
 }
 
-/// Puts the name of an orphan into a text: that which an old slot tells, in text form, or else its
-/// first block, in the place of what the text had.
+/// Puts the name of an orphan into a text, in the place of what that had: the name in an old slot,
+/// in text form, or else its first block.
 fn put_orphan_stem(
     text: &mut Vec<u8>,
     first: BlockNo,

@@ -18,12 +18,12 @@ abbrev pub left_after : Option ℕ → Option Portion → Option ℕ
 left_after left None = left
 left_after left (Some portion) = remaining_bytes left (length portion.bytes)
 
--- what is written, of what there is to write of a file: nothing where that is too much
+-- what is written, of what there is to write of a file: None if that is too much
 abbrev pub portion_within : Option ℕ → Option Portion → Option Portion
 portion_within left portion = if is_some (left_after left portion) then portion else None
 
--- what is written, of what there is to write of files, one after another, where they may have so
--- many bytes
+-- what is written, of what there is to write of files, one after another, if they may have `left`
+-- bytes in all
 unfoldable pub written_portions : Option ℕ → List (Option Portion) → List (Option Portion)
 written_portions left [] = []
 written_portions left (portion ∷ portions) = portion_within left portion ∷ written_portions (left_after left portion) portions

@@ -39,7 +39,7 @@ row_with fields error = row_text default_writer (fields ++ error ∷ [])
 abbrev pub place_fields : Bytes → ℕ → List (List ℕ)
 place_fields name slot = host_field name ∷ decimal slot ∷ []
 
--- what is told of a row, with its place
+-- the fields of a row, with its place
 unfoldable pub row_fields : Bytes → Row → List (List ℕ)
 row_fields name (File row) = place_fields name row.slot ++ file_fields row
 row_fields name (Deleted row) = place_fields name row.slot ++ deleted_fields row

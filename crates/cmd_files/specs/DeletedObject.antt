@@ -18,7 +18,7 @@ loss_members row =
     (codes "whole", boolean_or_null (Some (length row.losses == 0))) ∷ (codes "why", array_of (map loss_value row.losses)) ∷ (codes "conditions", array_of [])
     ∷ (codes "read_errors", numeral row.read_errors) ∷ []
 
--- what is told of a deleted file, but for the image and the slot: it has no kind any more, its type
+-- the members of a deleted file, but for the image and the slot: it has no kind any more, its type
 -- byte is 0, and it has no side way
 unfoldable pub deleted_members : DeletedRowView → List Field
 deleted_members row =

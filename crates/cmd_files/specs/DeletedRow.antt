@@ -9,7 +9,7 @@ use Rattle.cmd_files.specs.LossWords.{loss_word}
 abbrev pub loss_fields : DeletedRowView → List (List ℕ)
 loss_fields row = truth_or_empty (Some (length row.losses == 0)) ∷ spaced_texts loss_word row.losses ∷ [] ∷ decimal row.read_errors ∷ []
 
--- what is told of a deleted file, but for the image and the slot
+-- the fields of a deleted file, but for the image and the slot
 unfoldable pub deleted_fields : DeletedRowView → List (List ℕ)
 deleted_fields row =
     name_fields row.field

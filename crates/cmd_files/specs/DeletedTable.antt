@@ -32,7 +32,7 @@ unfoldable pub losses_text : Disk → DeletedRowView → List Loss → List ℕ
 losses_text image row [] = []
 losses_text image row (loss ∷ losses) = loss_text image row loss ++ flat_map (λ other. codes ", " ++ loss_text image row other) losses
 
--- what stands before the reasons: that the file is lost, or can be brought back
+-- what is said before the reasons: that the file is lost, or can be brought back
 abbrev pub hope_text : List Loss → List ℕ
 hope_text [] = codes "can be brought back"
 hope_text (loss ∷ losses) = if is_lost (loss ∷ losses) then codes "lost: " else codes "can be brought back, but "
@@ -41,7 +41,7 @@ hope_text (loss ∷ losses) = if is_lost (loss ∷ losses) then codes "lost: " e
 unfoldable pub deleted_state : Disk → DeletedRowView → List ℕ
 deleted_state image row = hope_text row.losses ++ losses_text image row row.losses
 
--- what is told of a deleted file on a line: the size, the name, and whether it can be brought back;
+-- the text of a deleted file on a line: the size, the name, and whether it can be brought back;
 -- its kind isn't known
 unfoldable pub deleted_text : Disk → DeletedRowView → List ℕ
 deleted_text image row =

@@ -25,7 +25,7 @@ extracted_object leftovers name row path = object_of (row_members name row ++ (p
 abbrev pub path_field : Option Bytes → List ℕ
 path_field path = option_map_or host_field path []
 
--- the row of CSV of it: the path stands before what is left over and the error, which it has not
+-- the row of CSV of it: the path comes before what is left over and the error, which is empty
 unfoldable pub extracted_row : Leftovers → Bytes → Row → Option Bytes → List ℕ
 extracted_row leftovers name row path = row_with (row_fields name row ++ (path_field path ∷ leftover_fields leftovers row)) []
 

@@ -51,12 +51,13 @@ after_rows Csv dump = []
 unfoldable pub printed_rows : Form → Selection → Bytes → DumpView → List ℕ
 printed_rows form wanted name dump = flat_map (printed_row form name dump.image) (rows wanted dump)
 
--- lines under a heading, where there are some
+-- lines under a heading, which is left out if there are no lines
 abbrev pub under_heading : List ℕ → List ℕ → List ℕ
 under_heading heading [] = []
 under_heading heading (byte ∷ bytes) = heading ++ byte ∷ bytes
 
--- whether what stands under a heading of its own in a table is wanted, its rows, and the heading
+-- of a section of a table, which has a heading of its own: whether it is wanted, its rows, and the
+-- heading
 abbrev pub is_section_wanted : Section → Leftovers → Bool
 is_section_wanted Deleted leftovers = leftovers.deleted
 is_section_wanted Orphans leftovers = leftovers.orphans

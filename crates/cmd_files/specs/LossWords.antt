@@ -1,4 +1,4 @@
--- The words for why a deleted file isn't whole.
+-- One word for each reason why a deleted file isn't whole.
 use Rattle.std.specs.Prelude.{ℕ, List, codes}
 use Rattle.d64_scratched.specs.declared.loss.Loss.{Loss}
 use Rattle.d64_scratched.specs.declared.loss.Loss.TheVariants.{Chain, Reused, Marked, Size, Claimed, Unreadable}

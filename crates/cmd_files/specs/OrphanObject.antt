@@ -8,7 +8,7 @@ use Rattle.out_json_csv.specs.Values.{Field, array_of, numeral, numeral_or_null}
 use Rattle.out_json_csv.specs.Pairs.{pair_text}
 use Rattle.cmd_files.specs.FileObject.{name_members, type_members, way_members, content_members}
 
--- the name, and the field that it stands in; null where no old slot tells them
+-- the name, and the field that it is in; null if there is no old slot
 abbrev pub old_name_members : Option OldSlot → List Field
 old_name_members None = (codes "name", null) ∷ (codes "field", null) ∷ []
 old_name_members (Some old) = name_members old.field
@@ -28,7 +28,7 @@ orphan_entry_members row =
 abbrev pub orphan_state_members : OrphanRowView → List Field
 orphan_state_members row = (codes "whole", null) ∷ (codes "why", array_of []) ∷ (codes "conditions", array_of []) ∷ (codes "read_errors", numeral row.read_errors) ∷ []
 
--- what is told of an orphan, but for the image and the slot
+-- the members of an orphan, but for the image and the slot
 unfoldable pub orphan_members : OrphanRowView → List Field
 orphan_members row =
     old_name_members row.old

@@ -6,7 +6,7 @@ use Rattle.d64_leftovers.specs.declared.orphan_row.OldSlot.{OldSlot}
 use Rattle.out_json_csv.specs.Pairs.{pair_text}
 use Rattle.cmd_files.specs.FileRow.{decimal_or_empty, name_fields, type_fields, way_fields, content_fields}
 
--- the name, and the field that it stands in; nothing where no old slot tells them
+-- the name, and the field that it is in; empty if there is no old slot
 abbrev pub old_name_fields : Option OldSlot → List (List ℕ)
 old_name_fields None = [] ∷ [] ∷ []
 old_name_fields (Some old) = name_fields old.field
@@ -25,7 +25,7 @@ orphan_entry_fields row = decimal_or_empty (option_map (λ (old : OldSlot). old.
 abbrev pub orphan_state_fields : OrphanRowView → List (List ℕ)
 orphan_state_fields row = [] ∷ [] ∷ [] ∷ decimal row.read_errors ∷ []
 
--- what is told of an orphan, but for the image and the slot
+-- the fields of an orphan, but for the image and the slot
 unfoldable pub orphan_fields : OrphanRowView → List (List ℕ)
 orphan_fields row =
     old_name_fields row.old

@@ -9,12 +9,12 @@ use Rattle.out_messages.specs.Names.{quoted_name}
 use Rattle.out_messages.specs.Words.{block_text, count_of}
 use Rattle.cmd_files.specs.FileTable.{right_in, left_in}
 
--- the name that an old slot tells, in quotes; else the first block
+-- the name in an old slot, in quotes; else the first block
 abbrev pub orphan_name : ℕ → Option OldSlot → List ℕ
 orphan_name first None = block_text first
 orphan_name first (Some old) = quoted_name (name_in old.field)
 
--- the letters of the kind that an old slot tells
+-- the letters of the kind in an old slot; else spaces
 abbrev pub orphan_kind : Option OldSlot → List ℕ
 orphan_kind None = codes "   "
 orphan_kind (Some old) = kind_letters old.kind
@@ -37,8 +37,7 @@ unfoldable pub orphan_state : OrphanRowView → List ℕ
 orphan_state row =
     codes "from " ++ (block_text row.first ++ (codes ": " ++ (count_of (byte_count row) (codes "byte") ++ (named_text row.old ++ error_text row.read_errors))))
 
--- what is told of an orphan on a line: how many blocks it has, the name and the kind that an old slot
--- tells, and that state
+-- the text of an orphan on a line: how many blocks it has, the name, the kind, and that state
 unfoldable pub orphan_text : OrphanRowView → List ℕ
 orphan_text row =
     right_in 5 (decimal row.blocks) ++ (codes " " ++ (left_in 18 (orphan_name row.first row.old) ++ (codes " " ++ (orphan_kind row.old ++ (codes "   " ++ orphan_state row)))))

@@ -20,7 +20,7 @@ place_members name slot = image_member name ∷ (codes "slot", numeral slot) ∷
 abbrev pub orphan_place : Bytes → List Field
 orphan_place name = image_member name ∷ (codes "slot", null) ∷ []
 
--- what is told of a row, with its place
+-- the members of a row, with its place
 unfoldable pub row_members : Bytes → Row → List Field
 row_members name (File row) = place_members name row.slot ++ file_members row
 row_members name (Deleted row) = place_members name row.slot ++ deleted_members row

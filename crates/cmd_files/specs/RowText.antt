@@ -7,7 +7,7 @@ use Rattle.cmd_files.specs.FileTable.{file_text}
 use Rattle.cmd_files.specs.DeletedTable.{deleted_text}
 use Rattle.cmd_files.specs.OrphanTable.{orphan_text}
 
--- what is told of a row on a line
+-- the text of a row on a line
 abbrev pub row_text : Disk → Row → List ℕ
 row_text image (File row) = file_text row
 row_text image (Deleted row) = deleted_text image row

@@ -58,7 +58,7 @@ fn put_placed_deleted(
     put_deleted_members(scratch, writer, file)
 }
 
-/// Prints what is told of an orphan, with its place: it has no slot.
+/// Prints the members of an orphan, with its place: it has no slot.
 fn put_placed_orphan(
     scratch: &mut Vec<u8>,
     writer: &mut Writer,

@@ -9,7 +9,7 @@ use d64_leftovers::{OldSlot, OrphanRow};
 use out_json_csv::{push_field, push_fields, push_number, push_pair};
 use std::alloc::AllocError;
 
-/// Adds the name, and the field that it stands in, to a row; nothing if no old slot tells them.
+/// Adds the name, and the field that it is in, to a row; empty ones if there is no old slot.
 fn push_old_names(
     scratch: &mut Vec<u8>,
     line: &mut ByteRecord,
@@ -25,7 +25,8 @@ fn push_old_names(
     }
 }
 
-/// Adds the kind, and the type byte with what it says, to a row; nothing if no old slot tells them.
+/// Adds the kind, and the type byte with what it says, to a row; empty ones if there is no old
+/// slot.
 fn push_old_type(line: &mut ByteRecord, old: Option<OldSlot>) -> Result<(), AllocError>
     requires { partial_of line.old ≡ [] }
     ensures fields { OnOk result (fields_of line.new ≡ fields_of line.old ++ old_type_fields old) }
@@ -66,7 +67,7 @@ fn push_orphan_state(line: &mut ByteRecord, row: &OrphanRow) -> Result<(), Alloc
     push_number(line, row.read_errors as u64)
 }
 
-/// Adds what is told of an orphan, but for the image and the slot, to a row.
+/// Adds the fields of an orphan, but for the image and the slot, to a row.
 pub(crate) fn push_orphan_fields(
     scratch: &mut Vec<u8>,
     line: &mut ByteRecord,

@@ -11,7 +11,7 @@ use json::Writer;
 use out_json_csv::{put_null, put_number, put_pair};
 use std::alloc::AllocError;
 
-/// Prints the name, and the field that it stands in; null if no old slot tells them.
+/// Prints the name, and the field that it is in; null if there is no old slot.
 fn put_old_names(
     scratch: &mut Vec<u8>,
     writer: &mut Writer,
@@ -29,7 +29,7 @@ fn put_old_names(
     }
 }
 
-/// Prints the kind, and the type byte with what it says; null if no old slot tells them.
+/// Prints the kind, and the type byte with what it says; null if there is no old slot.
 fn put_old_type(writer: &mut Writer, old: Option<OldSlot>) -> Result<(), AllocError>
     ensures before { writer.new.before ≡ writer.old.before }
     ensures tokens { OnOk result (writer.new.tokens ≡ writer.old.tokens ++ member_tokens (old_type_members old)) }
@@ -77,8 +77,8 @@ fn put_orphan_state(writer: &mut Writer, row: &OrphanRow) -> Result<(), AllocErr
     put_number(writer, "read_errors", row.read_errors as u64)
 }
 
-/// Prints what is told of an orphan, but for the image and the slot: the members from its name to
-/// its read errors.
+/// Prints the members of an orphan, but for the image and the slot: those from its name to its read
+/// errors.
 pub(crate) fn put_orphan_members(
     scratch: &mut Vec<u8>,
     writer: &mut Writer,

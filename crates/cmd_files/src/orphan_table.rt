@@ -19,8 +19,8 @@ fn push_block_count(out: &mut Vec<u8>, count: usize) -> Result<(), AllocError>
     push_right(out, SIZE_COLUMNS, digits.format(count).as_bytes())
 }
 
-/// Puts the name that an old slot tells into a text, in the place of what that had, in quotes, or
-/// else the first block.
+/// Puts the name in an old slot, in quotes, or else the first block into a text, in the place of
+/// what that had.
 fn put_orphan_name(
     text: &mut Vec<u8>,
     first: BlockNo,
@@ -35,7 +35,7 @@ fn put_orphan_name(
     }
 }
 
-/// The letters of the kind that an old slot tells.
+/// Returns the letters of the kind in an old slot, or else spaces.
 fn orphan_kind(old: Option<OldSlot>) -> &'static str
     ensures { result.now ≡ orphan_kind old }
 {
@@ -90,8 +90,9 @@ fn push_orphan_state(out: &mut Vec<u8>, row: &OrphanRow) -> Result<(), AllocErro
     out.extend_from_slice(error_text(row.read_errors))
 }
 
-/// Adds what is told of an orphan on a line: how many blocks it has, the name and the kind that an
-/// old slot tells, where it begins, and how many bytes it has.
+/// Adds the text of an orphan on a line: how many blocks it has, the name, the kind, where it
+/// begins, how many bytes it has, whether an old slot names it, and whether a block has a read
+/// error.
 #[tactic(auto, unfolding(crate::specs::OrphanTable::orphan_text))]
 pub(crate) fn push_orphan_text(
     scratch: &mut Vec<u8>,

@@ -36,7 +36,7 @@ const ORPHANS_ALONE: Selection = Selection {
     orphans: true,
 };
 
-/// What stands under a heading of its own in a table.
+/// A section of a table, which has a heading of its own.
 #[derive(Clone, Copy)]
 enum Section {
     Deleted,

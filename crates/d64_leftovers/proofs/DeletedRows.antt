@@ -1,4 +1,4 @@
--- What is told of a deleted file, field by field.
+-- The row of a deleted file, field by field.
 use Rattle.std.proofs.Common.{◌≡◌, ℕ, List, length}
 use Rattle.std.specs.List.{find}
 use Rattle.d64_files.specs.Slot.{size_of, first_pair, field_of}
@@ -9,7 +9,7 @@ use Rattle.d64_scratched.specs.Scratched.{losses}
 use Rattle.d64_inventory.specs.Contents.{digested_along}
 use Rattle.d64_leftovers.specs.Deleted.{DeletedRowView, unreadable_count, deleted_row}
 
--- what a row tells is so
+-- the fields of a row are those of the deleted file of a numbered slot
 pub record AreTold (dump : DumpView) (numbered : ℕ × List ℕ) (row : DeletedRowView) : Type 0 where
   pub slot : row.slot ≡ numbered.0
   pub field : row.field ≡ field_of numbered.1

@@ -1,4 +1,4 @@
--- What is told of an orphan, field by field.
+-- The row of an orphan, field by field.
 use Rattle.std.proofs.Common.{◌≡◌, ℕ, List, length, refl}
 use Rattle.std.specs.Prelude.{option_map}
 use Rattle.d64_image.specs.Block.{pair_at}
@@ -8,7 +8,7 @@ use Rattle.d64_inventory.specs.Contents.{digested_along}
 use Rattle.d64_leftovers.specs.Deleted.{unreadable_count}
 use Rattle.d64_leftovers.specs.Orphans.{OrphanRowView, old_slot, old_slot_of, orphan_row}
 
--- what a row tells is so
+-- the fields of a row, after the first block, are those of the orphan that begins with that block
 pub record AreTold (dump : DumpView) (row : OrphanRowView) : Type 0 where
   pub old : row.old ≡ option_map old_slot_of (old_slot dump.image row.first)
   pub blocks : row.blocks ≡ length (way dump.image (pair_at row.first)).0

@@ -59,7 +59,7 @@ pub row_first : (source : SourceView) (slot : ℕ) (row : Row) → slot < length
 row_first source slot row within is =
     first_and_later source slot within ∙ ap (λ (r : Option Row). cons_option r (later source slot)) (sym (is ∙ row_is_there source slot within))
 
--- where there is none, the later ones are left
+-- if there is none at a slot, the later ones are left
 pub row_later : (source : SourceView) (slot : ℕ) → slot < length (slots_of source) → None ≡ row_at source slot → rows_from source slot ≡ later source slot
 row_later source slot within is =
     first_and_later source slot within ∙ ap (λ (r : Option Row). cons_option r (later source slot)) (sym (is ∙ row_is_there source slot within))

@@ -1,4 +1,4 @@
--- What is told of a scratched slot, and of the file that was deleted there.
+-- The row of a scratched slot, and of the file that was deleted there.
 use Rattle.std.specs.Prelude.{ℕ, List, length, count_by, Option}
 use Rattle.std.specs.List.{find}
 use Rattle.d64_image.specs.Disk.{Disk, Bytes, Blocks}
@@ -11,7 +11,7 @@ use Rattle.d64_scratched.specs.declared.loss.Loss.{Loss}
 use Rattle.d64_inventory.specs.Contents.{digested_along}
 use Rattle.d64_inventory.specs.declared.row.Content.{Content}
 
--- what a row tells of a deleted file
+-- the row of a deleted file
 pub record DeletedRowView : Type 0 where
   pub slot : ℕ
   pub field : Bytes
@@ -27,7 +27,7 @@ pub record DeletedRowView : Type 0 where
 abbrev pub unreadable_count : Option Bytes → Blocks → ℕ
 unreadable_count codes blocks = count_by (λ block. is_read_error (code_of codes block)) blocks
 
--- what is told of a numbered slot of a dump that is scratched: how many blocks its way has, the
+-- the row of a numbered slot of a dump that is scratched: how many blocks its way has, the
 -- content along it, why the file isn't whole, and the first block of the way that has an owner
 unfoldable pub deleted_row : DumpView → ℕ × Bytes → DeletedRowView
 deleted_row dump slot = record {

@@ -63,7 +63,7 @@ is_named_by image head cell = is_used cell && (has_kind cell && option_map_or (n
 abbrev pub old_slot : Disk → ℕ → Option Bytes
 old_slot image head = find (is_named_by image head) (old_slots image)
 
--- what an old slot tells
+-- what an old slot says
 abbrev pub old_slot_of : Bytes → OldSlot
 old_slot_of cell = record {
   field = field_of cell;
@@ -74,7 +74,7 @@ old_slot_of cell = record {
   size = size_of cell;
 }
 
--- what a row tells of an orphan
+-- the row of an orphan
 pub record OrphanRowView : Type 0 where
   pub first : ℕ
   pub old : Option OldSlot
@@ -82,7 +82,7 @@ pub record OrphanRowView : Type 0 where
   pub content : Option Content
   pub read_errors : ℕ
 
--- what is told of the orphan of a head
+-- the row of the orphan of a head
 unfoldable pub orphan_row : DumpView → ℕ → OrphanRowView
 orphan_row dump head = record {
   first = head;

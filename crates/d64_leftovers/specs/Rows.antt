@@ -29,8 +29,8 @@ is_orphan (File row) = false
 is_orphan (Deleted row) = false
 is_orphan (Orphan row) = true
 
--- the row of a numbered slot of a dump: that of its file, where it is used, and that of a deleted
--- one, where it is scratched; none where that isn't wanted
+-- the row of a numbered slot of a dump: that of its file, if it is used, and that of a deleted
+-- one, if it is scratched; None if it is neither, or that isn't wanted
 abbrev pub row_of_slot : Selection → DumpView → ℕ × Bytes → Option Row
 row_of_slot wanted dump slot =
     if is_used slot.1 then (if wanted.files then Some (File (row_of dump slot)) else None)

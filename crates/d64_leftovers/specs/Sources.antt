@@ -15,8 +15,8 @@ pub record SourceView : Type 0 where
   pub dump : DumpView
   pub wanted : Selection
 
--- the row of the slot of this number; none where the directory's way has no such slot, or its row
--- isn't wanted
+-- the row of the slot of this number; None if the directory's way has no such slot, or the slot has
+-- no row that is wanted
 abbrev pub row_at : SourceView → ℕ → Option Row
 row_at source slot = option_and_then (λ cell. row_of_slot source.wanted source.dump (slot, cell)) (slot_cell source.dump.image slot)
 

@@ -1,12 +1,12 @@
-//! The row of an orphan: all that is told of a chain of blocks that no slot leads to.
+//! The row of an orphan, a chain of blocks that no slot leads to.
 
 use d64_files::Kind;
 use d64_image::BlockNo;
 use d64_inventory::Content;
 use std::marker::Model;
 
-/// What a slot of an old directory tells of an orphan, of whose first block it has the track and the
-/// sector.
+/// What a slot of an old directory says of an orphan. The slot has the track and the sector of the
+/// orphan's first block.
 #[derive(Clone, Copy, Debug, PartialEq, Eq)]
 pub struct OldSlot {
     /// The field of the name.
@@ -19,12 +19,12 @@ pub struct OldSlot {
     pub size: u16,
 }
 
-/// What is told of a chain of blocks that no slot leads to.
+/// The row of a chain of blocks that no slot leads to.
 #[derive(Debug, Drop)]
 pub struct OrphanRow {
     /// Its first block.
     pub first: BlockNo,
-    /// What the first slot of an old directory that names it tells, if one does.
+    /// What the first slot of an old directory that names it says, if one does.
     pub old: Option<OldSlot>,
     /// How many blocks it has.
     pub blocks: usize,

@@ -20,7 +20,7 @@ use d64_map::DIRECTORY_TRACK;
 use d64_survey::{Inspection, walk};
 use std::marker::Model;
 
-/// What must be known of a dump to tell of its orphans. It takes no memory of its own.
+/// What must be known of a dump to make the rows of its orphans. It takes no memory of its own.
 ///
 /// In clauses it is the dump itself.
 #[derive(Drop)]
@@ -69,7 +69,7 @@ fn data_length(image: &Image, blocks: &[BlockNo]) -> usize
     bytes
 }
 
-/// What an old slot tells.
+/// Returns what an old slot says.
 fn old_slot_of(entry: &Entry) -> OldSlot
     ensures { result ≡ old_slot_of entry.now.bytes }
 {
@@ -200,7 +200,8 @@ impl<'a> Orphans<'a> {
         old_slot_among(slots, head)
     }
 
-    /// What is told of the orphan of a head, with the digests that the inventory of the dump keeps.
+    /// Returns the row of the orphan of a head, with the digests that the inventory of the dump
+    /// keeps.
     pub(crate) fn row(&self, inventory: &mut Inventory, head: BlockNo) -> OrphanRow
         requires { inventory.old ≡ self.now }
         ensures row { result ≡ orphan_row self.now head }

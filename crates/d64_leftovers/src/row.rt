@@ -1,4 +1,4 @@
-//! `Row`: what is told of a file that is there, of a deleted one, or of an orphan.
+//! `Row`: the row of a file that is there, of a deleted one, or of an orphan.
 ghost use Rattle.std.specs.Prelude.{◌≡◌};
 ghost use Rattle.d64_leftovers.specs.Rows.{is_deleted, is_orphan};
 
@@ -6,7 +6,7 @@ use crate::deleted_row::DeletedRow;
 use crate::orphan_row::OrphanRow;
 use d64_inventory::FileRow;
 
-/// What is told of a file, or of what is left of one.
+/// The row of a file, or of what is left of one.
 #[derive(Debug, Drop)]
 pub enum Row {
     /// The row of the file of a used slot.

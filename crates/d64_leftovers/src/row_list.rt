@@ -75,7 +75,8 @@ fn orphan_from(source: &mut Source, place: usize) -> Option<Found>
     None
 }
 
-/// The first row of an orphan, where no row of a slot is left.
+/// Returns the first row of an orphan that is left, with the place after the last slot, or None if
+/// no orphan is left.
 fn orphan_step(source: &mut Source, left: usize) -> Option<Step>
     ensures found { MatchOption result (orphans_from source.old left ≡ []) (λ step. orphans_from source.old left ≡ step.row ∷ (rows_from source.old step.slot ++ orphans_from source.old step.left)) }
     ensures same { source.new ≡ source.old }

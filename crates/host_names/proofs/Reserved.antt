@@ -37,7 +37,7 @@ spaced_differs front rest word spaceless =
     list_all-append (λ byte. not (byte == 32)) (lower front) (32 ∷ lower rest) ∙ and_false (has_no_space (lower front)) in
     both_ways (has_no_space (lower word)) (ap has_no_space (sym is) ∙ none) spaceless)
 
--- nor any of some words that have none
+-- nor any of some words, each without a space
 spaced_among : (front rest : List ℕ) (words : List (List ℕ)) → list_all (λ word. has_no_space (str_to_ascii_lowercase word)) words ≡ true
     → list_any (is_same_name (front ++ 32 ∷ rest)) words ≡ false
 spaced_among front rest [] spaceless = refl
@@ -85,7 +85,7 @@ underscored : (rest : List ℕ) → is_reserved (underscore ∷ rest) ≡ false
 unfolding is_reserved
 underscored rest = or_from (list_any (is_same_name (underscore ∷ rest)) devices) (is_port (underscore ∷ rest)) refl (no_port_word (underscore ∷ rest) refl)
 
--- ---- what stands before the first full stop
+-- ---- what is before the first full stop
 
 before_stop : (byte : ℕ) (name : List ℕ) → (byte == full_stop) ≡ true → before_dot (byte ∷ name) ≡ []
 before_stop byte name is = ap (λ (t : Bool). take (if not t then 1 + position_or_len (λ b. b == full_stop) name else 0) (byte ∷ name)) is
@@ -96,7 +96,7 @@ before_other byte name is =
     ap (λ (t : Bool). take (if not t then 1 + position_or_len (λ b. b == full_stop) name else 0) (byte ∷ name)) is
     ∙ ap (λ (n : ℕ). take n (byte ∷ name)) more
 
--- before the first one of two lists: it stands in the first list, or all of that stands before it
+-- before the first one of two lists: it is in the first list, or all of that list is before it
 before-append : (front rest : List ℕ) → (before_dot (front ++ rest) ≡ before_dot front)
     ⊎ ((before_dot (front ++ rest) ≡ front ++ before_dot rest) × (before_dot front ≡ front))
 before-append [] rest = inr (refl, refl)
@@ -111,7 +111,7 @@ before-append (byte ∷ front) rest = by_test (before-append front rest) (byte =
     by_test (inr both) false is =
         inr (before_other byte (front ++ rest) is ∙ ap (λ (bs : List ℕ). byte ∷ bs) both.0, before_other byte front is ∙ ap (λ (bs : List ℕ). byte ∷ bs) both.1)
 
--- nothing stands before the full stop of an end
+-- nothing is before the full stop of an end
 before_tail : (ending : Ending) (is_part : Bool) → before_dot (tail ending is_part) ≡ []
 unfolding tail ending_text part_text
 before_tail Del is_part = before_stop 46 (codes "del" ++ part_text is_part) refl

@@ -1,4 +1,4 @@
--- The name that a file of an image gets on a host, where no other file has it.
+-- The name that a file of an image gets on a host, if no other file has it.
 use Rattle.std.specs.Prelude.{ℕ, ◌-◌, ◌==◌, ◌&&◌, ◌||◌, nat_eq, Bool, if◌then◌else◌, List, [], ◌∷◌, ◌++◌, length, map, take, slice_index, slice_set, codes, decimal}
 use Rattle.std.specs.Int.{is_in_range}
 use Rattle.std.specs.List.{list_any, before_first}
@@ -51,7 +51,7 @@ filled_name name = if length name == 0 then underscore ∷ [] else name
 abbrev pub is_same_name : List ℕ → List ℕ → Bool
 is_same_name one other = str_eq_ignore_ascii_case one other
 
--- what stands before the first `.` of a name, or all of it
+-- what is before the first `.` of a name, or all of it
 abbrev pub before_dot : List ℕ → List ℕ
 before_dot name = before_first (λ byte. byte == full_stop) name
 
@@ -113,7 +113,7 @@ part_text is_part = if is_part then codes ".part" else []
 unfoldable pub tail : Ending → Bool → List ℕ
 tail ending is_part = ending_text ending ++ part_text is_part
 
--- what stands before the ending of the name that is tried in this place: of the first one nothing,
+-- what is before the ending of the name that is tried in this place: of the first one nothing,
 -- then ` (2)`, ` (3)` and so on
 unfoldable pub mark : ℕ → List ℕ
 mark number = if number == 1 then [] else codes " (" ++ (decimal number ++ codes ")")
@@ -122,6 +122,6 @@ mark number = if number == 1 then [] else codes " (" ++ (decimal number ++ codes
 unfoldable pub numbered_name : List ℕ → List ℕ → ℕ → List ℕ
 numbered_name front back number = front ++ (mark number ++ back)
 
--- the first one: the name that a file gets where no other file has it
+-- the first one: the name that a file gets if no other file has it
 abbrev pub host_name : List ℕ → Ending → Bool → List ℕ
 host_name text ending is_part = numbered_name (stem text) (tail ending is_part) 1

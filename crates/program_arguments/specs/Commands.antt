@@ -69,16 +69,16 @@ survey app = with_names (with_rule app (valued_option (codes "format")))
 abbrev pub check : App
 check = survey (with_rule (new_app (codes "check")) (flag (codes "digest")))
 
--- a subcommand with the words for what is left over beside files: `--deleted` and `--orphans`
+-- a subcommand with the flags for what is left over beside files: `--deleted` and `--orphans`
 abbrev pub with_leftovers : App → App
 with_leftovers app = with_rule (with_rule app (flag (codes "deleted"))) (flag (codes "orphans"))
 
--- `files [--deleted] [--orphans]` with the words of a survey
+-- `files [--deleted] [--orphans]` with the arguments of a survey
 abbrev pub files : App
 files = survey (with_leftovers (new_app (codes "files")))
 
--- `extract [--into FOLDER] [--part] [--skip-existing] [--deleted] [--orphans]` with the words of a
--- survey
+-- `extract [--into FOLDER] [--part] [--skip-existing] [--deleted] [--orphans]` with the
+-- arguments of a survey
 abbrev pub extract : App
 extract =
     let placed = with_rule (new_app (codes "extract")) (valued_option (codes "into")) in

@@ -108,11 +108,11 @@ IsJobOf met (Merge merging format files) =
 IsJobOf met (Catalogue page names) = (met.0 ≡ codes "catalogue") × IsPageBy met.1 page × IsNamesBy met.1 names
 
 -- it asks for no job, since its start is no address, or no disk has its number of tracks; or, if a
--- disk has this number, since a session of a file has tracks of its own; or since its argument for
--- a form of output is the name of no form; or, if it has a form, since the name of its folder is
--- empty; or since its page has an empty title, or else an empty folder of links; or since no
--- argument says which file a merge makes, or else of which files; or else since there are no names;
--- or memory ran out
+-- disk has that number, since `--resume` is given, too, and that file has tracks of its own; or
+-- since `--format` names no form of output; or, if it has a form, since the name of its folder is
+-- empty; or since its page has an empty title, or else an empty folder of links; or since nothing
+-- says which file a merge makes, or else of which files; or else since there are no names, or
+-- `--null` is given without a list of them; or there is no memory
 abbrev pub IsFaultOf : Met → JobFault → Type 0
 IsFaultOf met (Words error) = ⊥
 IsFaultOf met Start = (met.0 ≡ codes "crunch") × HasNoAddress (first_of (codes "start") met.1)

@@ -194,7 +194,7 @@ fn check<'a>(alloc: Global) -> Result<Command<'a>, AllocError>
     survey(alloc, command)
 }
 
-/// `files [--deleted] [--orphans]` with the words of a survey.
+/// `files [--deleted] [--orphans]` with the arguments of a survey.
 fn files<'a>(alloc: Global) -> Result<Command<'a>, AllocError>
     ensures { IsMade files result }
 {
@@ -202,8 +202,8 @@ fn files<'a>(alloc: Global) -> Result<Command<'a>, AllocError>
     survey(alloc, command)
 }
 
-/// `extract [--into FOLDER] [--part] [--skip-existing] [--deleted] [--orphans]` with the words of a
-/// survey.
+/// `extract [--into FOLDER] [--part] [--skip-existing] [--deleted] [--orphans]` with the
+/// arguments of a survey.
 fn extract<'a>(alloc: Global) -> Result<Command<'a>, AllocError>
     ensures { IsMade extract result }
 {
@@ -230,7 +230,7 @@ fn extract<'a>(alloc: Global) -> Result<Command<'a>, AllocError>
     survey(alloc, command)
 }
 
-/// The subcommand with the words for what is left over beside files: `[--deleted]` and
+/// Returns the subcommand with the flags for what is left over beside files: `[--deleted]` and
 /// `[--orphans]`.
 fn with_leftovers<'a>(
     alloc: Global,
