@@ -55,6 +55,7 @@ SWEEPS = [
     "scripts/sweep-survey-names",
     "scripts/sweep-extract",
     "scripts/sweep-leftovers",
+    "scripts/other-tools",
     "scripts/instructions",
 ]
 
