@@ -1,8 +1,8 @@
 -- Errors of arguments.
 use Rattle.std.proofs.Common.{ℕ, List, inr}
 use Rattle.program_arguments.specs.Requested.{IsFault}
-use Rattle.program_arguments.specs.declared.requested.JobFault.{JobFault}
-use Rattle.program_arguments.specs.declared.requested.JobFault.TheVariants.{Words, Start, Memory, Tracks, Both, Format, Names, Null, Picture, Difference, Folder, Title, Links, Output, Dumps}
+use Rattle.program_arguments.specs.declared.jobs.JobFault.{JobFault}
+use Rattle.program_arguments.specs.declared.jobs.JobFault.TheVariants.{Words, Start, Memory, Tracks, Both, Format, Names, Null, Picture, Difference, Folder, Title, Links, Output, Dumps}
 use Rattle.d64_shell.specs.Program.{IsErrorOf}
 
 -- a fault of arguments is an error of them, if it is one of clap's

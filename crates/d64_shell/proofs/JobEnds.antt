@@ -2,7 +2,7 @@
 use Rattle.std.proofs.Common.{◌≡◌, ℕ, Bool, true, false, List, Result, Ok, Err, refl, sym, subst}
 use Rattle.std.specs.Prelude.{IfOk}
 use Rattle.script_text.specs.Output.{Account}
-use Rattle.program_arguments.specs.declared.requested.Job.{Job}
+use Rattle.program_arguments.specs.declared.jobs.Job.{Job}
 use Rattle.program_batch.specs.Answers.{KeepsQuiet, Rule, by_rule}
 use Rattle.cmd_extract.specs.Effects.{unpacks}
 use Rattle.cmd_extract.specs.Setup.{SetupView}

@@ -1,16 +1,16 @@
 -- What each job does.
 use Rattle.std.specs.Prelude.{◌≡◌, ℕ, true, List, [], ◌∷◌, Option, ⊤, map, option_map, string_bytes}
-use Rattle.program_arguments.specs.declared.requested.Job.{Job}
+use Rattle.program_arguments.specs.declared.jobs.Job.{Job}
 use Rattle.program_surveys.specs.SurveyFiles.{SurveyFiles, Named, files_of}
 use Rattle.program_surveys.specs.Comparisons.{PairRule}
 use Rattle.script_run.specs.Transcript.{RunOptions}
 use Rattle.cmd_basic.specs.declared.tools.Tool.{Tool}
-use Rattle.program_arguments.specs.declared.requested.Job.TheVariants.{Shell, Petcat, Crunch, Check, Files, Extract, Map, Catalogue, Diff, Merge}
-use Rattle.program_arguments.specs.declared.requested.Extraction.{Extraction as RequestedExtraction}
-use Rattle.program_arguments.specs.declared.requested.Merging.{Merging as RequestedMerging}
-use Rattle.program_arguments.specs.declared.requested.DiffForm.{DiffForm}
-use Rattle.program_arguments.specs.declared.requested.Format.{Format}
-use Rattle.program_arguments.specs.declared.requested.Leftovers.{Leftovers}
+use Rattle.program_arguments.specs.declared.jobs.Job.TheVariants.{Shell, Petcat, Crunch, Check, Files, Extract, Map, Catalogue, Diff, Merge}
+use Rattle.program_arguments.specs.declared.jobs.Extraction.{Extraction as RequestedExtraction}
+use Rattle.program_arguments.specs.declared.jobs.Merging.{Merging as RequestedMerging}
+use Rattle.program_arguments.specs.declared.jobs.DiffForm.{DiffForm}
+use Rattle.program_arguments.specs.declared.jobs.Format.{Format}
+use Rattle.program_arguments.specs.declared.jobs.Leftovers.{Leftovers}
 use Rattle.program_batch.specs.Answers.{Rule}
 use Rattle.cmd_check.specs.Check.{check_rule, heading_of as check_heading}
 use Rattle.cmd_files.specs.Files.{files_rule, heading_of as files_heading}

@@ -3,9 +3,9 @@ use Rattle.std.specs.Prelude.{◌≡◌, ℕ, List, ◌∷◌, map, codes, ◌�
 use Rattle.script_text.specs.Output.{Account}
 use Rattle.host_names.specs.Shown.{shown_name}
 use Rattle.program_arguments.specs.Requested.{IsFault, IsJob, IsHelpOrVersion}
-use Rattle.program_arguments.specs.declared.requested.Job.{Job}
-use Rattle.program_arguments.specs.declared.requested.JobFault.{JobFault}
-use Rattle.program_arguments.specs.declared.requested.JobFault.TheVariants.{Words}
+use Rattle.program_arguments.specs.declared.jobs.Job.{Job}
+use Rattle.program_arguments.specs.declared.jobs.JobFault.{JobFault}
+use Rattle.program_arguments.specs.declared.jobs.JobFault.TheVariants.{Words}
 use Rattle.program_batch.specs.Answers.{by_rule}
 use Rattle.cmd_extract.specs.Effects.{unpacks}
 use Rattle.program_exit.specs.Outside.{Outside}

@@ -3,7 +3,7 @@ use Rattle.std.proofs.Common.{◌≡◌, ℕ, List, map, true, false, Bool, Opti
 use Rattle.std.proofs.lemmas.Simd.{map-map}
 use Rattle.std.specs.Prelude.{MatchBool}
 use Rattle.script_text.specs.Output.{Account}
-use Rattle.program_batch.specs.Names.{Asked, File}
+use Rattle.program_batch.specs.Names.{Request, File}
 use Rattle.program_batch.specs.Answers.{Effects}
 use Rattle.host_storage.specs.Files.{HostState}
 use Rattle.program_batch.specs.Runs.{Begins, Runs, RunState, run_state, reported_of}
@@ -35,7 +35,7 @@ pub over_given : (effects : Effects) (names : FileNames) (given : Bor (List (Str
     → names ≡ Given given → Runs effects (map (λ name. File (string_bytes name)) given.now) a b ended → RunsOver effects (files_in names) reader reader has_failed a b ended
 over_given effects names given reader has_failed a b ended is ran =
     let whole : RunsOver effects (files_in (Given given)) reader reader has_failed a b ended =
-    (refl, subst (λ (l : List Asked). Runs effects l a b ended) (sym (map-map File string_bytes given.now)) ran) in
+    (refl, subst (λ (l : List Request). Runs effects l a b ended) (sym (map-map File string_bytes given.now)) ran) in
     subst (λ (n : FileNames). RunsOver effects (files_in n) reader reader has_failed a b ended) (sym is) whole
 
 -- a run over the names of the input

@@ -6,8 +6,7 @@ ghost use Rattle.d64_files.specs.Directory.{directory, slots};
 use crate::damage::{held, put_parts};
 use d64_files::{
     Kind, Name, Pattern, SlotNo, blocks_for, clear_slot, dir_last, empty_directory, find,
-    first_empty, grow, is_taken, put_chain, put_entry, set_name,
-    set_type,
+    first_empty, grow, is_taken, put_chain, put_entry, set_name, set_type,
 };
 use d64_image::{BlockNo, Image, Patch};
 use std::test::Fail;
