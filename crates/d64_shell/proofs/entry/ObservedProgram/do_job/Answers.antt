@@ -10,7 +10,7 @@ use Rattle.std.specs.Prelude.{[], ◌∷◌, string_bytes}
 use Rattle.script_run.specs.Transcript.{RunOptions}
 use Rattle.script_run.specs.declared.run_options.Refusals.{Refusals}
 use Rattle.cmd_shell.specs.Beginnings.{beginning_of, home_of, refusals_of, source_of}
-use Rattle.d64_shell.specs.Jobs.{setup_of, work_of}
+use Rattle.d64_shell.specs.Jobs.{form_of, setup_of, work_of}
 use Rattle.program_surveys.specs.SurveyFiles.{Named, files_in, files_of}
 use Rattle.program_exit.specs.Outside.{outside_at}
 use Rattle.d64_shell.proofs.JobEnds.{extraction_ended, extraction_is_quiet, script_ended, survey_ended}
@@ -47,12 +47,12 @@ returns-in-Check-clause-ended g c =
 
 pub returns-in-Files-clause-ended : goal.returns-in-Files-clause-ended
 returns-in-Files-clause-ended g c =
-    survey_ended c.args.job (files_rule c.in-Files.format) (files_heading c.in-Files.format) (files_of c.in-Files.names) (files_in c.new-in-Files.result.names)
+    survey_ended c.args.job (files_rule (form_of c.in-Files.format c.in-Files.leftovers)) (files_heading (form_of c.in-Files.format c.in-Files.leftovers)) (files_of c.in-Files.names) (files_in c.new-in-Files.result.names)
     (outside_at g.R.Read.remaining c.args.input.now g.W.Write.contents c.args.output.now g.H.Host.state c.args.host.now)
     (outside_at g.R.Read.remaining c.run-in-Files.new.input g.W.Write.contents c.run-in-Files.new.output g.H.Host.state c.run-in-Files.new.host)
     (account_at g.F.Write.contents c.args.faults.now) (account_at g.F.Write.contents c.run-in-Files.new.faults) c.run-in-Files.result
     (ap work_of c.in-Files.is) (search rules)
-    (c.run-in-Files.ensures.ended (files_rule c.in-Files.format) (files_heading c.in-Files.format) (search rules))
+    (c.run-in-Files.ensures.ended (files_rule (form_of c.in-Files.format c.in-Files.leftovers)) (files_heading (form_of c.in-Files.format c.in-Files.leftovers)) (search rules))
 
 pub returns-in-Map-clause-ended : goal.returns-in-Map-clause-ended
 returns-in-Map-clause-ended g c =
@@ -74,14 +74,14 @@ returns-in-Catalogue-clause-ended g c =
 
 pub returns-in-Extract-clause-ended : goal.returns-in-Extract-clause-ended
 returns-in-Extract-clause-ended g c =
-    extraction_ended c.args.job (setup_of c.in-Extract.extraction c.in-Extract.format) (extract_heading c.in-Extract.format) (files_of c.in-Extract.names) (files_in c.new-in-Extract.result.names)
+    extraction_ended c.args.job (setup_of c.in-Extract.extraction (form_of c.in-Extract.format c.in-Extract.leftovers)) (extract_heading (form_of c.in-Extract.format c.in-Extract.leftovers)) (files_of c.in-Extract.names) (files_in c.new-in-Extract.result.names)
     (outside_at g.R.Read.remaining c.args.input.now g.W.Write.contents c.args.output.now g.H.Host.state c.args.host.now)
     (outside_at g.R.Read.remaining c.run_by.new.input g.W.Write.contents c.run_by.new.output g.H.Host.state c.run_by.new.host)
     (account_at g.F.Write.contents c.args.faults.now) (account_at g.F.Write.contents c.run_by.new.faults) c.run_by.result
     (ap work_of c.in-Extract.is) (search rules)
-    (c.run_by.ensures.ended (setup_of c.in-Extract.extraction c.in-Extract.format) (extract_heading c.in-Extract.format) (search rules))
+    (c.run_by.ensures.ended (setup_of c.in-Extract.extraction (form_of c.in-Extract.format c.in-Extract.leftovers)) (extract_heading (form_of c.in-Extract.format c.in-Extract.leftovers)) (search rules))
 
 pub returns-in-Extract-clause-silent : goal.returns-in-Extract-clause-silent
 returns-in-Extract-clause-silent g c = λ passes is.
-    c.run_by.ensures.silent (extraction_is_quiet c.args.job (setup_of c.in-Extract.extraction c.in-Extract.format) (extract_heading c.in-Extract.format) (files_of c.in-Extract.names) c.new-task.result
+    c.run_by.ensures.silent (extraction_is_quiet c.args.job (setup_of c.in-Extract.extraction (form_of c.in-Extract.format c.in-Extract.leftovers)) (extract_heading (form_of c.in-Extract.format c.in-Extract.leftovers)) (files_of c.in-Extract.names) c.new-task.result
     (ap work_of c.in-Extract.is) (search rules) passes) is
