@@ -147,10 +147,7 @@ fn refusals_say_what_is_wrong(rt: HostRuntime) -> Result<(), Fail> {
             Refusal::Directory(DirFault::UnknownKind),
             "a directory entry has an unknown file type: set its type byte to one of $80 to $84, or to $00 to free it",
         ),
-        (
-            Refusal::Lost,
-            "what was deleted under this name is lost",
-        ),
+        (Refusal::Lost, "what was deleted under this name is lost"),
         (
             Refusal::DiskFull,
             "there is no room on the disk or in its directory",
