@@ -186,12 +186,11 @@ fn names_a_slot(rt: HostRuntime) -> Result<(), Fail> {
 fn types_a_slot(rt: HostRuntime) -> Result<(), Fail> {
     let mut image = one_file(&rt)?;
     let slot = used_slot(&image)?;
-    let before = *bytes_of(&image, block(18, 1)?)?;
     set_type(&mut image, &mut Patch::new(rt.alloc()), slot, Kind::Seq)?;
-    let after = bytes_of(&image, block(18, 1)?)?;
-    assert_eq!(rt; after[0x22], 0x81);
-    assert_eq!(rt; &after[..0x22], &before[..0x22]);
-    assert_eq!(rt; &after[0x23..], &before[0x23..]);
+    let sector = bytes_of(&image, block(18, 1)?)?;
+    assert_eq!(rt; &sector[..2], b"\x00\xFF".as_slice());
+    assert_eq!(rt; &sector[0x22..0x26], b"\x81\x11\x00S".as_slice());
+    assert_eq!(rt; &sector[0x26..0x36], b"IXTEEN LETTERS!\x01".as_slice());
     Ok(())
 }
 
