@@ -124,6 +124,8 @@ ssize_t readlink(const char *restrict path, char *restrict into, size_t size)
 
 int rename(const char *from, const char *to) { CALL(OF_PATH(to), "rename", to, REAL(rename)(from, to)); }
 
+int link(const char *from, const char *to) { CALL(OF_PATH(to), "link", to, REAL(link)(from, to)); }
+
 int mkdir(const char *path, mode_t mode) { CALL(OF_PATH(path), "mkdir", path, REAL(mkdir)(path, mode)); }
 
 int rmdir(const char *path) { CALL(OF_PATH(path), "rmdir", path, REAL(rmdir)(path)); }

@@ -105,7 +105,7 @@ fn write<H: Host>(
     let Some(bytes) = merged_bytes(alloc, with_codes, &readings.dumps, &plan.list)? else {
         return say_merged(alloc, setup, readings, plan, None, buffer);
     };
-    match host.make_file(&setup.out, &bytes) {
+    match host.make_whole_file(alloc, &setup.out, &bytes) {
         Ok(()) => say_merged(alloc, setup, readings, plan, Some(&bytes), buffer),
         Err(_) => {
             let reason = reason_unwritten(host, &setup.out);

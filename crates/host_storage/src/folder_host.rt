@@ -9,7 +9,7 @@ use crate::retrying::Retrying;
 use crate::standard_streams::StandardStreams;
 use crate::whole_store::store_file;
 use crate::writes::Writes;
-use crate::{look, new_entry};
+use crate::{look, new_entry, whole_file};
 use std::alloc::{AllocError, Global};
 use std::fs::{self, File};
 use std::io::{ErrorKind, Read};
@@ -25,7 +25,7 @@ const READ_BYTES: usize = 16_384;
 /// The files of the system, by their paths from the current folder.
 /// It exposes no files to proofs, since others write to them too. A store replaces an existing file
 /// in one step, or leaves it unchanged; a new file is removed again if writing it fails. What is
-/// made new does not wait for the disk.
+/// made new does not wait for the disk, unless it is to be made whole.
 #[derive(Drop)]
 pub struct FolderHost<R> {
     rt: R,
@@ -136,6 +136,19 @@ where
         self.writes.begin();
         let path = Path::new(path);
         let outcome = new_entry::make_file(&self.rt, &self.writes, path, bytes);
+        count_refusal(&mut self.failures, &outcome);
+        outcome
+    }
+
+    fn make_whole_file(
+        &mut self,
+        alloc: Global,
+        path: &str,
+        bytes: &[u8],
+    ) -> Result<(), FolderFault> {
+        self.writes.begin();
+        let path = Path::new(path);
+        let outcome = whole_file::make_whole_file(&self.rt, alloc, &self.writes, path, bytes);
         count_refusal(&mut self.failures, &outcome);
         outcome
     }

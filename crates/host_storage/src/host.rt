@@ -160,6 +160,18 @@ pub trait Host {
         ensures made { Makes (with_file path.now bytes.now) (state self.old).files path.now result (state self.new).files }
         ensures counted { CountsMaking (state self.old).failures (state self.new).failures result };
 
+    /// Makes a file of these bytes as `make_file` does, and waits for the disk. If the file system
+    /// has hard links, and there is memory for the name of a draft, the path never has only a part
+    /// of them, even if the process is killed while it writes.
+    fn make_whole_file(
+        &mut self,
+        alloc: Global,
+        path: &str,
+        bytes: &[u8],
+    ) -> Result<(), FolderFault>
+        ensures made { Makes (with_file path.now bytes.now) (state self.old).files path.now result (state self.new).files }
+        ensures counted { CountsMaking (state self.old).failures (state self.new).failures result };
+
     /// Appends these bytes to an existing file. The error is `Device`, for example because there is
     /// no such file or a disk is full; the file may then have a first part of them.
     fn extend_file(&mut self, path: &str, bytes: &[u8]) -> Result<(), FolderFault>

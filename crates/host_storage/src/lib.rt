@@ -16,6 +16,7 @@ mod process_status;
 mod retrying;
 mod size_limit;
 mod standard_streams;
+mod whole_file;
 mod whole_store;
 mod writes;
 

@@ -325,6 +325,21 @@ impl Host for MemoryHost {
         self.put_or_refuse(path, bytes)
     }
 
+    fn make_whole_file(
+        &mut self,
+        _alloc: Global,
+        path: &str,
+        bytes: &[u8],
+    ) -> Result<(), FolderFault>
+        ensures due { self.old.countdown ≡ 1 → result ≡ Err FolderFault.Device }
+        ensures exists { making_refusal self.old path.now ≡ Some FolderFault.Exists → result ≡ Err FolderFault.Exists }
+        ensures countdown { self.new.countdown ≡ self.old.countdown - 1 }
+        ensures made { Makes (with_file path.now bytes.now) (Some self.old.files) path.now result (Some self.new.files) }
+        ensures counted { CountsMaking self.old.failures self.new.failures result }
+    {
+        self.make_file(path, bytes)
+    }
+
     fn extend_file(&mut self, path: &str, bytes: &[u8]) -> Result<(), FolderFault>
         ensures due { extending_refusal self.old path.now ≡ Some FolderFault.Device → result ≡ Err FolderFault.Device }
         ensures kept { OnErr result (self.new.files ≡ self.old.files) }

@@ -95,7 +95,7 @@ pub fn rename_folder<R: Files>(
 }
 
 /// The fault for which nothing was made. What the system says of it is kept.
-fn refused(writes: &Writes, kind: ErrorKind) -> FolderFault
+pub fn refused(writes: &Writes, kind: ErrorKind) -> FolderFault
     ensures exists { (result ≡ FolderFault.Exists) ↔ (kind ≡ ErrorKind.AlreadyExists) }
     ensures device { kind ≢ ErrorKind.AlreadyExists → result ≡ FolderFault.Device }
 {

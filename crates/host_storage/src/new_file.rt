@@ -7,13 +7,24 @@ ghost use Rattle.host_storage.specs.Host.{IsOfDeviceOrMemory};
 use crate::access::keep_access;
 use crate::draft::Draft;
 use crate::host::HostFault;
-use std::alloc::Global;
+use std::alloc::{AllocError, Global};
 use std::fs::{self, File, OpenFile, OpenOptions};
 use std::io::{self, ErrorKind, Write};
 use std::os::fd::AsFd;
 use std::os::unix::fs::OpenOptionsExt;
 use std::path::{Path, PathBuf};
 use std::rt::Files;
+
+/// The permissions of a draft until it has those of the file that it replaces.
+const FOR_ITS_OWNER: u32 = 0o600;
+
+/// Why no draft was made.
+pub enum DraftFault {
+    /// Memory for its path ran out.
+    Memory(AllocError),
+    /// What the system says.
+    System(ErrorKind),
+}
 
 /// A new file in the folder of the one that it replaces, which is open for writing.
 #[derive(Drop)]
@@ -26,8 +37,8 @@ pub struct NewFile<'a, R: Files> {
 }
 
 impl<'a, R: Files> NewFile<'a, R> {
-    /// Makes a new file beside the old one, which is open and at this path, under a name that no
-    /// file has. Only its owner can open it. Such names that others have left behind are skipped.
+    /// Makes a new file beside the old one, which is open and at this path. Only its owner can open
+    /// it.
     pub fn beside(
         rt: &'a R,
         alloc: Global,
@@ -36,23 +47,17 @@ impl<'a, R: Files> NewFile<'a, R> {
     ) -> Result<NewFile<'a, R>, HostFault>
         ensures { IfErr result IsOfDeviceOrMemory }
     {
-        for number in 0..u64::MAX {
-            let new_path = draft_path(alloc, old_path, number)?;
-            match open_new(rt, new_path.as_path()) {
-                Ok(new) => {
-                    return Ok(NewFile {
-                        rt,
-                        old,
-                        old_path,
-                        new,
-                        new_path,
-                    });
-                }
-                Err(error) if error.kind() == ErrorKind::AlreadyExists => {}
-                Err(_) => return Err(HostFault::Device),
-            }
+        match open_beside(rt, alloc, old_path, FOR_ITS_OWNER) {
+            Ok((new, new_path)) => Ok(NewFile {
+                rt,
+                old,
+                old_path,
+                new,
+                new_path,
+            }),
+            Err(DraftFault::Memory(error)) => Err(HostFault::Memory(error)),
+            Err(DraftFault::System(_)) => Err(HostFault::Device),
         }
-        Err(HostFault::Device)
     }
 }
 
@@ -91,27 +96,43 @@ pub fn write_to_end<F: Write>(file: &mut F, bytes: &[u8]) -> io::Result<()>
     file.flush()
 }
 
-/// The path of a new file in the folder of this one.
-fn draft_path(alloc: Global, path: Path<'_>, number: u64) -> Result<PathBuf, HostFault>
-    ensures { IfErr result IsOfDeviceOrMemory }
-{
-    let name = format!(in alloc; ".d64sh-{number}").map_err(HostFault::Memory)?;
-    path.with_file_name(alloc, name.as_str())
-        .map_err(HostFault::Memory)
+/// Makes a new file in the folder of this path, which is open for writing, under a name that no
+/// file has, with these permissions at most. Such names that others have left behind are skipped.
+pub fn open_beside<R: Files>(
+    rt: &R,
+    alloc: Global,
+    path: Path<'_>,
+    mode: u32,
+) -> Result<(R::File, PathBuf), DraftFault> {
+    for number in 0..u64::MAX {
+        let new_path = draft_path(alloc, path, number).map_err(DraftFault::Memory)?;
+        match open_new(rt, new_path.as_path(), mode) {
+            Ok(new) => return Ok((new, new_path)),
+            Err(error) if error.kind() == ErrorKind::AlreadyExists => {}
+            Err(error) => return Err(DraftFault::System(error.kind())),
+        }
+    }
+    Err(DraftFault::System(ErrorKind::AlreadyExists))
 }
 
-/// Makes a file under a name that no file has. Only its owner can open it.
-fn open_new<R: Files>(rt: &R, path: Path<'_>) -> io::Result<R::File> {
+/// The path of a new file in the folder of this one.
+fn draft_path(alloc: Global, path: Path<'_>, number: u64) -> Result<PathBuf, AllocError> {
+    let name = format!(in alloc; ".d64sh-{number}")?;
+    path.with_file_name(alloc, name.as_str())
+}
+
+/// Makes a file under a name that no file has.
+fn open_new<R: Files>(rt: &R, path: Path<'_>, mode: u32) -> io::Result<R::File> {
     OpenOptions::new()
         .write(true)
         .create_new(true)
-        .mode(0o600)
+        .mode(mode)
         .open(rt, path)
 }
 
 /// Waits until the disk has the folder's new entry, if the system offers that. The file is whole
 /// either way.
-fn sync_folder_of<R: Files>(rt: &R, path: Path<'_>) {
+pub fn sync_folder_of<R: Files>(rt: &R, path: Path<'_>) {
     let folder = match path.parent() {
         Some(parent) if parent.to_str() != Some("") => parent,
         _ => Path::new("."),

@@ -141,6 +141,15 @@ impl<'a, R: Clock + Eprint, H: Host> Host for WatchedHost<'a, R, H> {
         self.host.make_file(path, bytes)
     }
 
+    fn make_whole_file(
+        &mut self,
+        alloc: Global,
+        path: &str,
+        bytes: &[u8],
+    ) -> Result<(), FolderFault> {
+        self.host.make_whole_file(alloc, path, bytes)
+    }
+
     fn extend_file(&mut self, path: &str, bytes: &[u8]) -> Result<(), FolderFault> {
         self.host.extend_file(path, bytes)
     }

@@ -97,6 +97,23 @@ fn makes_files_and_folders_of_the_system(rt: HostRuntime) -> Result<(), Fail> {
 }
 
 #[test]
+fn makes_whole_files_of_the_system(rt: HostRuntime) -> Result<(), Fail> {
+    let file = "d64-shell-whole-file-test";
+    let lost = "d64-shell-whole-file-test-2/one";
+    let mut host = FolderHost::new(rt.clone()?);
+    host.make_whole_file(rt.alloc(), file, &[1, 2])?;
+    assert!(rt; host.make_whole_file(rt.alloc(), file, &[3]) == Err(FolderFault::Exists));
+    assert_eq!(rt;
+        host.fetch(rt.alloc(), file, 2)?.as_slice(),
+        [1, 2].as_slice()
+    );
+    assert!(rt; host.make_whole_file(rt.alloc(), lost, &[4]) == Err(FolderFault::Device));
+    assert_eq!(rt; host.failures(), 1);
+    fs::remove_file(&rt, file)?;
+    Ok(())
+}
+
+#[test]
 fn makes_nothing_through_a_link(rt: HostRuntime) -> Result<(), Fail> {
     let link = "d64-shell-dangling-link-test";
     let mut host = FolderHost::new(rt.clone()?);

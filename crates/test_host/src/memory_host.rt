@@ -47,7 +47,7 @@ fn keeps_folders(rt: HostRuntime) -> Result<(), Fail> {
     let mut host = MemoryHost::new(rt.alloc());
     host.make_folder("new")?;
     host.make_file("new/one", &[1])?;
-    host.make_file("newer", &[2])?;
+    host.make_whole_file(rt.alloc(), "newer", &[2])?;
     assert!(rt; host.is_there("new") && host.is_there("newer") && !host.is_there("ne"));
     assert!(rt; host.make_folder("new") == Err(FolderFault::Exists));
     assert!(rt; host.make_folder("newer") == Err(FolderFault::Exists));
