@@ -2,8 +2,7 @@
 use Rattle.std.specs.Prelude.{ℕ, if◌then◌else◌, Bool, List, [], ◌++◌, Option, codes}
 use Rattle.std.specs.List.{flat_map}
 use Rattle.d64_image.specs.Disk.{Disk, Bytes}
-use Rattle.d64_effects.specs.View.{disk_id}
-use Rattle.d64_names.specs.Names.{disk_name}
+use Rattle.d64_files.specs.DiskHeader.{disk_id, disk_name}
 use Rattle.d64_survey.specs.Dump.{DumpView}
 use Rattle.d64_survey.specs.Faults.{faults}
 use Rattle.d64_survey.specs.Inspection.{is_amiss, is_sound}

@@ -8,7 +8,7 @@ use Rattle.d64_image.specs.Disk.{Disk, Blocks, Bytes}
 use Rattle.d64_image.specs.Image.{tracks_of}
 use Rattle.d64_map.specs.Map.{blocks_free}
 use Rattle.d64_survey.specs.Dump.{DumpView}
-use Rattle.d64_names.specs.Names.{disk_dos}
+use Rattle.d64_files.specs.DiskHeader.{disk_dos}
 use Rattle.out_messages.specs.CheckText.{label_text}
 use Rattle.host_names.specs.Shown.{shown_name}
 use Rattle.out_messages.specs.Words.{count_of, block_text}

@@ -10,10 +10,10 @@ ghost use Rattle.cmd_diff.specs.ChangeObject.{change_member, entry_value, slot_m
 
 use arrayvec::ArrayString;
 use cmd_files::put_file_members;
+use d64_files::{disk_dos, disk_id, disk_name};
 use d64_image::{BlockNo, Image};
 use d64_inventory::FileRow;
 use d64_map::blocks_free;
-use d64_names::{disk_dos, disk_id, disk_name};
 use d64_survey::Inspection;
 use itoa::Buffer;
 use json::Writer;

@@ -14,7 +14,8 @@ use Rattle.d64_files.specs.Writing.{empty_directory}
 use Rattle.d64_files.proofs.WrittenBytes.{length-filled_field}
 use Rattle.d64_effects.specs.Format.{directory_start, header, free_when_formatted, blank_disk, formatted_disk}
 use Rattle.d64_effects.specs.Laws.{AreTwoBytes, free_count_of}
-use Rattle.d64_effects.specs.View.{View, disk_field, disk_id, view}
+use Rattle.d64_effects.specs.View.{View, view}
+use Rattle.d64_files.specs.DiskHeader.{disk_field, disk_id}
 use Rattle.d64_effects.specs.ViewAfter.{formatted_view}
 use Rattle.d64_effects.proofs.EmptyDisks.{length-parts, blocks_free-formatted_disk, IsBlock-header}
 use Rattle.d64_effects.proofs.FormattedDisks.{part-map_for, unused-formatted_disk, view-formatted_disk}

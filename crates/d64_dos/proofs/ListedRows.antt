@@ -11,7 +11,7 @@ use Rattle.d64_files.specs.Slot.{EntryView, is_used, name_of}
 use Rattle.d64_files.specs.Directory.{slots, entry_of, entries, is_named, first_named}
 use Rattle.d64_files.proofs.Owners.{entries_from}
 use Rattle.d64_files.proofs.SlotLists.{found-entry}
-use Rattle.d64_effects.specs.View.{disk_field, disk_id}
+use Rattle.d64_files.specs.DiskHeader.{disk_field, disk_id}
 use Rattle.d64_dos.specs.Listing.{RowView, row_of, rows_of, listing_of}
 use Rattle.d64_dos.specs.Reading.{name_at}
 

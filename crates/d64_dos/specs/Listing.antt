@@ -9,7 +9,7 @@ use Rattle.d64_files.specs.Slot.{EntryView, is_used, name_of, is_closed, is_lock
 use Rattle.d64_files.specs.declared.kind.Kind.{Kind}
 use Rattle.d64_effects.specs.Format.{formatted_disk}
 use Rattle.d64_effects.specs.Laws.{AreTwoBytes, free_count_of}
-use Rattle.d64_effects.specs.View.{disk_field, disk_id}
+use Rattle.d64_files.specs.DiskHeader.{disk_field, disk_id}
 use Rattle.d64_dos.specs.declared.row.Row.{Row}
 use Rattle.d64_dos.specs.declared.row.Listing.{Listing}
 

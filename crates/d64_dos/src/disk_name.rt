@@ -4,8 +4,7 @@ ghost use Rattle.d64_image.specs.Patch.{IsPatchOf, restored_image};
 ghost use Rattle.d64_files.specs.Name.{filled_field};
 ghost use Rattle.d64_effects.specs.DiskName.{labelled, named_disk};
 
-use crate::format::{ID_START, NAME_START};
-use d64_files::{FILLER, Name, write_at};
+use d64_files::{FILLER, ID_START, NAME_START, Name, write_at};
 use d64_image::{BLOCK_BYTES, Image, Patch};
 use d64_map::map_block;
 use std::alloc::AllocError;

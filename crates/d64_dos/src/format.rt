@@ -6,7 +6,10 @@ ghost use Rattle.d64_image.specs.Patch.{IsPatchOf, restored_image};
 ghost use Rattle.d64_effects.specs.Format.{directory_start, header, free_when_formatted, blank_disk, formatted_disk};
 
 use crate::block_count::block_count;
-use d64_files::{DIRECTORY_SECTOR, FILLER, Name, empty_directory, write_at};
+use d64_files::{
+    DIRECTORY_SECTOR, DOS_VERSION_START, FILLER, ID_START, NAME_START, Name, empty_directory,
+    write_at,
+};
 use d64_image::{BLOCK_BYTES, BlockNo, BlockSet, Image, Patch};
 use d64_map::{DIRECTORY_TRACK, map_block, put_map};
 use std::alloc::AllocError;
@@ -17,15 +20,6 @@ const LINK_AND_FORMAT: [u8; 4] = [DIRECTORY_TRACK, DIRECTORY_SECTOR, 0x41, 0x00]
 
 /// The DOS version and the format, as a directory shows them: `2A`.
 const DOS_VERSION: [u8; 2] = [0x32, 0x41];
-
-/// The place of the disk's name in the map's block.
-pub(crate) const NAME_START: usize = 0x90;
-
-/// The place of the disk's id in the map's block.
-pub(crate) const ID_START: usize = 0xA2;
-
-/// The place of the DOS version in the map's block.
-pub(crate) const DOS_VERSION_START: usize = 0xA5;
 
 /// How many bytes the disk's label has, from its name on: the name, the id and the DOS version.
 const LABEL_BYTES: usize = 27;

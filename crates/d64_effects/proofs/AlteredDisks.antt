@@ -15,7 +15,8 @@ use Rattle.d64_files.specs.Directory.{directory, slots, slots_in, owned_blocks}
 use Rattle.d64_files.specs.Ownership.{owned_by, HasItsChains}
 use Rattle.d64_files.specs.Slot.{HasKind}
 use Rattle.d64_files.specs.declared.dir_fault.DirFault.TheVariants.{WrongCounts, NoDirectory, UnknownKind, NoChain, CrossLinked, MarkedFree}
-use Rattle.d64_effects.specs.View.{IsSound, disk_field, disk_id, slot_view, view}
+use Rattle.d64_effects.specs.View.{IsSound, slot_view, view}
+use Rattle.d64_files.specs.DiskHeader.{disk_field, disk_id}
 use Rattle.d64_effects.proofs.DirectoryEntries.{link_same, directory-same, slots-same}
 use Rattle.d64_effects.proofs.FormattedDisks.{part-map_for}
 use Rattle.d64_effects.proofs.Frames.{Agree, Framed, framed, owned_by-same, slot_view-same, HasItsChains-same}

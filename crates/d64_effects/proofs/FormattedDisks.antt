@@ -29,7 +29,8 @@ use Rattle.d64_files.proofs.Chains.{chain_of_one, chain-is}
 use Rattle.d64_files.proofs.SlotLists.{length-cells}
 use Rattle.d64_effects.specs.Format.{directory_start, header, free_when_formatted, blank_disk, formatted_disk}
 use Rattle.d64_effects.specs.Laws.{AreTwoBytes}
-use Rattle.d64_effects.specs.View.{View, FileView, slot_view, disk_field, disk_id, view}
+use Rattle.d64_effects.specs.View.{View, FileView, slot_view, view}
+use Rattle.d64_files.specs.DiskHeader.{disk_field, disk_id}
 use Rattle.d64_effects.specs.ViewAfter.{formatted_view}
 use Rattle.d64_effects.proofs.CellFields.{HasKind-unused, owned_by-unused, HasItsChains-unused}
 use Rattle.d64_effects.proofs.EmptyDisks.{length-formatted_disk, length-parts, contains-free, free_blocks-formatted_disk, counts-formatted_disk, IsBlock-header}

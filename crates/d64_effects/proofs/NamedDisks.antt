@@ -27,7 +27,8 @@ use Rattle.d64_files.specs.declared.dir_fault.DirFault.TheVariants.{WrongCounts,
 use Rattle.d64_files.proofs.WrittenBytes.{length-filled_field}
 use Rattle.d64_effects.specs.DiskName.{with_id, labelled, named_disk}
 use Rattle.d64_effects.specs.Laws.{AreTwoBytes, NamedIsImage, NamedIsSound, NamedShows}
-use Rattle.d64_effects.specs.View.{IsSound, disk_id, view}
+use Rattle.d64_effects.specs.View.{IsSound, view}
+use Rattle.d64_files.specs.DiskHeader.{disk_id}
 use Rattle.d64_effects.specs.ViewAfter.{named_view}
 use Rattle.d64_effects.proofs.AlteredDisks.{AlteredTo, map_not_listed, sound_after, view_after}
 use Rattle.d64_effects.proofs.DirectoryEntries.{get_or-written_before, get_or-written_past, IsBlock-written_at, block_at, link_same, directory-same, slots-same}

@@ -22,7 +22,8 @@ use Rattle.d64_files.specs.declared.kind.Kind.TheVariants.{Del}
 use Rattle.d64_files.proofs.WrittenBytes.{length-filled_field}
 use Rattle.d64_effects.specs.Laws.{RenamedIsImage, RenamedIsSound, RenamedShows}
 use Rattle.d64_effects.specs.Rename.{first_of_name, with_name_in, renamed_disk}
-use Rattle.d64_effects.specs.View.{FileView, IsSound, disk_field, disk_id, view, slot_view, file_view}
+use Rattle.d64_effects.specs.View.{FileView, IsSound, view, slot_view, file_view}
+use Rattle.d64_files.specs.DiskHeader.{disk_field, disk_id}
 use Rattle.d64_effects.specs.ViewAfter.{with_field, renamed_slots, renamed_view}
 use Rattle.d64_effects.proofs.AlteredDisks.{Altered, same_map, map_not_listed, held_by, sound_after, view_after}
 use Rattle.d64_effects.proofs.CellFields.{roots_of-same}

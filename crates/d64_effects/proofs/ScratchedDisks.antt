@@ -17,7 +17,8 @@ use Rattle.d64_effects.specs.Contents.{ListedFile, listed_file}
 use Rattle.d64_effects.specs.ContentsAfter.{is_scratched_row}
 use Rattle.d64_effects.specs.Delete.{is_scratched_slot, scratched_slots, without_files, scratched_disk}
 use Rattle.d64_effects.specs.Laws.{ScratchedIsImage, ScratchedIsSound, ScratchedShows, ScratchedAreCounted}
-use Rattle.d64_effects.specs.View.{FileView, IsSound, disk_field, disk_id, slot_view, file_view, view}
+use Rattle.d64_effects.specs.View.{FileView, IsSound, slot_view, file_view, view}
+use Rattle.d64_files.specs.DiskHeader.{disk_field, disk_id}
 use Rattle.d64_effects.specs.ViewAfter.{is_scratched_file, scratched_view}
 use Rattle.d64_effects.proofs.AlteredDisks.{Altered, same_map, remapped, map_not_listed, held_by, sound_after, view_after}
 use Rattle.d64_effects.proofs.CellFields.{HasKind-unused, HasItsChains-unused}

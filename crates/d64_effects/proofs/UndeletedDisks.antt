@@ -22,7 +22,8 @@ use Rattle.d64_files.specs.declared.kind.Kind.TheVariants.{Del, Seq, Prg, Usr, R
 use Rattle.d64_files.proofs.Chains.{distinct, is_chain}
 use Rattle.d64_effects.specs.Laws.{IsWritable, UndeletedIsImage, UndeletedIsSound, UndeletedShows}
 use Rattle.d64_effects.specs.Undelete.{cell_at, chain_left, undeleted_disk, CanComeBack}
-use Rattle.d64_effects.specs.View.{FileView, IsSound, disk_field, disk_id, view, slot_view}
+use Rattle.d64_effects.specs.View.{FileView, IsSound, view, slot_view}
+use Rattle.d64_files.specs.DiskHeader.{disk_field, disk_id}
 use Rattle.d64_effects.specs.ViewAfter.{file_back, undeleted_view}
 use Rattle.d64_effects.specs.Write.{blocks_without}
 use Rattle.d64_effects.proofs.AlteredDisks.{Altered, remapped, map_not_listed, held_by, sound_held, view_held}

@@ -16,7 +16,8 @@ use Rattle.d64_files.specs.declared.dir_fault.DirFault.TheVariants.{NoDirectory,
 use Rattle.d64_effects.specs.Clear.{with_cleared}
 use Rattle.d64_effects.specs.Laws.{ValidatedIsImage, ValidatedIsSound, ValidatedShows}
 use Rattle.d64_effects.specs.Validate.{is_unclosed, unclosed_slots, all_but, validated_disk}
-use Rattle.d64_effects.specs.View.{FileView, IsSound, disk_field, disk_id, view}
+use Rattle.d64_effects.specs.View.{FileView, IsSound, view}
+use Rattle.d64_files.specs.DiskHeader.{disk_field, disk_id}
 use Rattle.d64_effects.specs.ViewAfter.{validated_view, blocks_owned}
 use Rattle.d64_effects.proofs.AlteredDisks.{Altered, remapped, map_not_listed, held_by, sound_after, view_after}
 use Rattle.d64_effects.proofs.CellFields.{HasKind-unused, HasItsChains-unused}

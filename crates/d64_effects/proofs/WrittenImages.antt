@@ -22,7 +22,8 @@ use Rattle.d64_files.specs.declared.kind.Kind.{Kind}
 use Rattle.d64_files.proofs.Chains.{kept}
 use Rattle.d64_files.proofs.FileBlocks.{needs_one}
 use Rattle.d64_effects.specs.Laws.{AreBytes, HasRoom}
-use Rattle.d64_effects.specs.View.{IsSound, disk_field, disk_id}
+use Rattle.d64_effects.specs.View.{IsSound}
+use Rattle.d64_files.specs.DiskHeader.{disk_field, disk_id}
 use Rattle.d64_effects.specs.Write.{taken_by, directory_grown, blocks_without, with_new_entry, with_file, written_disk}
 use Rattle.d64_effects.proofs.CellFields.{length-entry_bytes, are_bytes-entry_bytes}
 use Rattle.d64_effects.proofs.DirectoryEntries.{link_same, directory-same, slots-same}

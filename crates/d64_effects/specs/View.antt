@@ -1,13 +1,13 @@
 -- What a disk shows: its view. The view of a sound image has all that the image says of names,
 -- files and free blocks.
-use Rattle.std.specs.Prelude.{ℕ, Bool, if◌then◌else◌, List, [], length, map, slice_range, Option, Some, None}
+use Rattle.std.specs.Prelude.{ℕ, Bool, if◌then◌else◌, List, [], length, map, Option, Some, None}
 use Rattle.std.specs.List.{slice_get}
 use Rattle.std.specs.Option.{option_map_or}
 use Rattle.d64_image.specs.Disk.{Disk, Bytes, Blocks}
 use Rattle.d64_image.specs.BlockSet.{BlockSet}
-use Rattle.d64_image.specs.Image.{sector_at}
-use Rattle.d64_map.specs.Map.{map_block, free_blocks}
+use Rattle.d64_map.specs.Map.{free_blocks}
 use Rattle.d64_files.specs.Directory.{directory, slots, AllHold}
+use Rattle.d64_files.specs.DiskHeader.{disk_field, disk_id}
 use Rattle.d64_files.specs.FileData.{data_along}
 use Rattle.d64_files.specs.Ownership.{roots, chain_at}
 use Rattle.d64_files.specs.Slot.{is_used, is_closed, is_locked, kind_of, field_of, size_of}
@@ -55,13 +55,6 @@ file_view image cell = record {
 -- what a slot shows: None if it isn't used
 unfoldable pub slot_view : Disk → Bytes → Option FileView
 slot_view image cell = if is_used cell then Some (file_view image cell) else None
-
--- the disk's name in its field, and its id
-abbrev pub disk_field : Disk → Bytes
-disk_field image = slice_range (sector_at image map_block) 0x90 0xA0
-
-abbrev pub disk_id : Disk → Bytes
-disk_id image = slice_range (sector_at image map_block) 0xA2 0xA4
 
 -- the view of an image
 unfoldable pub view : Disk → View

@@ -1,5 +1,6 @@
 pub mod Label
 pub mod Name
+pub mod DiskHeader
 pub mod Pattern
 pub mod Chain
 pub mod ChainLaws

@@ -1,5 +1,6 @@
-//! The files of a D64 image: names and the patterns that match them, chains of blocks and the data
-//! in them, the directory and its entries, and the six conditions of a sound disk.
+//! The files of a D64 image: the header of the disk, names and the patterns that match them, chains
+//! of blocks and the data in them, the directory and its entries, and the six conditions of a sound
+//! disk.
 #![tactic(auto)]
 
 mod block_bytes;
@@ -10,6 +11,7 @@ mod claims;
 mod clearing;
 mod dir_fault;
 mod directory_blocks;
+mod disk_header;
 mod entry;
 pub mod fault_laws;
 mod file_data;
@@ -30,6 +32,9 @@ pub use chain::block_in;
 pub use clearing::{clear_slot, set_name, set_type};
 pub use dir_fault::DirFault;
 pub use directory_blocks::{DIRECTORY_SECTOR, Directory};
+pub use disk_header::{
+    DOS_VERSION_START, ID_START, NAME_START, disk_dos, disk_id, disk_name, header_of,
+};
 pub use entry::{Entry, SlotNo};
 pub use file_data::data_of;
 pub use kind::Kind;

@@ -7,6 +7,7 @@ use Rattle.d64_image.specs.Disk.{Disk, Bytes, Blocks}
 use Rattle.d64_map.specs.Map.{map_block, free_blocks}
 use Rattle.d64_files.specs.Directory.{slots_in, numbered_slots}
 use Rattle.d64_files.specs.Ownership.{roots}
+use Rattle.d64_files.specs.Slot.{name_of}
 use Rattle.d64_survey.specs.Way.{way}
 use Rattle.d64_survey.specs.declared.owner.Part.{Part}
 use Rattle.d64_survey.specs.declared.owner.Part.TheVariants.{Data, Side}
@@ -21,6 +22,10 @@ directory_way image = way image (18, 1)
 -- the slots of an image: those of the blocks of the directory's way, however it ends
 abbrev pub way_slots : Disk → List Bytes
 way_slots image = slots_in image (directory_way image).0
+
+-- the name in a slot of the directory; empty if there is no such slot
+abbrev pub slot_name : Disk → ℕ → Bytes
+slot_name image slot = option_map_or name_of (slice_get (way_slots image) slot) []
 
 -- the pair from which a part of a slot's file leads; None if the slot has no such part
 abbrev pub pair_of : Part → Bytes → Option (ℕ × ℕ)

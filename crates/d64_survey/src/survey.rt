@@ -2,7 +2,7 @@
 ghost use Rattle.std.specs.Prelude.{◌≡◌, ◌*◌, ◌≤◌, length, option_map};
 ghost use Rattle.d64_image.specs.declared.block.TheConstants.{BLOCKS};
 ghost use Rattle.d64_files.specs.Directory.{entries, entry_of};
-ghost use Rattle.d64_survey.specs.Owners.{directory_way, way_slots, is_owned, is_shared};
+ghost use Rattle.d64_survey.specs.Owners.{directory_way, way_slots, slot_name, is_owned, is_shared};
 ghost use Rattle.d64_survey.specs.OwnerTables.{TellsOwners};
 ghost use Rattle.d64_survey.specs.Inspection.{slot_cell};
 
@@ -100,6 +100,16 @@ impl<'a> Survey<'a> {
         {
             Some(block) => Some(entry_in(self.image, *block, slot)),
             None => None,
+        }
+    }
+
+    /// The name in a slot of the directory's way, of at most 16 bytes; empty if it has no such slot.
+    pub fn slot_name(&self, slot: SlotNo) -> &'a [u8]
+        ensures { result.now ≡ slot_name self.now slot }
+    {
+        match self.entry(slot) {
+            Some(entry) => entry.name(),
+            None => &[],
         }
     }
 

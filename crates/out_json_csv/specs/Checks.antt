@@ -7,7 +7,7 @@ use Rattle.petscii.specs.Spelling.{spelling}
 use Rattle.d64_image.specs.Disk.{Disk, Bytes}
 use Rattle.d64_image.specs.Image.{tracks_of}
 use Rattle.d64_map.specs.Map.{blocks_free}
-use Rattle.d64_effects.specs.View.{disk_id}
+use Rattle.d64_files.specs.DiskHeader.{disk_dos, disk_id, disk_name}
 use Rattle.d64_survey.specs.Dump.{DumpView}
 use Rattle.d64_survey.specs.Owners.{unowned_count}
 use Rattle.d64_survey.specs.Faults.{faults}
@@ -15,7 +15,6 @@ use Rattle.d64_survey.specs.ReadErrors.{read_errors}
 use Rattle.d64_survey.specs.Doubts.{doubts}
 use Rattle.d64_survey.specs.Inspection.{entry_count, whole_count, is_sound, is_amiss}
 use Rattle.out_json_csv.specs.Values.{Field, object_of, array_of, numeral}
-use Rattle.d64_names.specs.Names.{disk_name, disk_dos}
 use Rattle.out_json_csv.specs.Names.{name_value}
 use Rattle.out_json_csv.specs.Findings.{fault_object, read_error_object}
 use Rattle.out_json_csv.specs.Doubts.{doubt_value, doubts_text}

@@ -7,7 +7,7 @@ use Rattle.d64_survey.specs.declared.owner.Part.TheVariants.{Data, Side}
 use Rattle.d64_survey.specs.declared.owner.Owner.{Owner}
 use Rattle.d64_survey.specs.declared.owner.Owner.TheVariants.{Map, Directory, File}
 use Rattle.out_json_csv.specs.Values.{Field, object_of, array_of, numeral}
-use Rattle.d64_names.specs.Names.{slot_name}
+use Rattle.d64_survey.specs.Owners.{slot_name}
 use Rattle.out_json_csv.specs.Names.{name_value}
 
 -- the word for a part of a file

@@ -10,9 +10,9 @@ use crate::field::{push_boolean, push_hexadecimal, push_host_name, push_name, pu
 use crate::row::end_row;
 use crate::scratch::Scratch;
 use csv::ByteRecord;
+use d64_files::{disk_dos, disk_id, disk_name};
 use d64_image::Image;
 use d64_map::blocks_free;
-use d64_names::{disk_dos, disk_id, disk_name};
 use d64_survey::Inspection;
 use std::alloc::AllocError;
 

@@ -9,7 +9,6 @@ use crate::member::{put_number, put_text};
 use crate::name::put_name;
 use d64_files::SlotNo;
 use d64_image::BlockNo;
-use d64_names::slot_name;
 use d64_survey::{Owner, Part, SHOWN_OWNERS, Survey};
 use json::Writer;
 use std::alloc::AllocError;
@@ -46,7 +45,7 @@ pub(crate) fn put_slot(
     ensures tokens { OnOk result (writer.new.tokens ≡ writer.old.tokens ++ member_tokens (slot_members survey.now slot)) }
 {
     put_number(writer, "slot", slot.place() as u64)?;
-    put_name(scratch, writer, "name", slot_name(survey, slot))
+    put_name(scratch, writer, "name", survey.slot_name(slot))
 }
 
 /// Prints an owner.

@@ -4,7 +4,7 @@ use Rattle.std.specs.Prelude.{ℕ, ◌-◌, ◌==◌, ◌&&◌, nat_lt, if◌the
 use Rattle.std.specs.List.{flat_map, list_any, range_with_len}
 use Rattle.d64_image.specs.Disk.{Disk}
 use Rattle.d64_map.specs.Map.{blocks_free}
-use Rattle.d64_effects.specs.View.{disk_id}
+use Rattle.d64_files.specs.DiskHeader.{disk_id, disk_name}
 use Rattle.d64_survey.specs.Dump.{DumpView}
 use Rattle.d64_survey.specs.Doubts.{doubts}
 use Rattle.d64_survey.specs.Faults.{faults, number}
@@ -15,7 +15,6 @@ use Rattle.d64_survey.specs.declared.fault.Fault.{Fault}
 use Rattle.d64_survey.specs.declared.read_error.ReadError.{ReadError}
 use Rattle.petscii.specs.Spelling.{spelling}
 use Rattle.host_names.specs.Shown.{shown_name}
-use Rattle.d64_names.specs.Names.{disk_name}
 use Rattle.out_messages.specs.Names.{quoted_name}
 use Rattle.out_messages.specs.Words.{count_of, line_below}
 use Rattle.out_messages.specs.DoubtText.{unowned_text, doubts_text, is_of_unowned}

@@ -6,7 +6,7 @@ use Rattle.d64_survey.specs.declared.owner.Part.{Part}
 use Rattle.d64_survey.specs.declared.owner.Part.TheVariants.{Data, Side}
 use Rattle.d64_survey.specs.declared.owner.Owner.{Owner}
 use Rattle.d64_survey.specs.declared.owner.Owner.TheVariants.{Map, Directory, File}
-use Rattle.d64_names.specs.Names.{slot_name}
+use Rattle.d64_survey.specs.Owners.{slot_name}
 use Rattle.out_messages.specs.Names.{quoted_name}
 
 -- what comes before the name of a file to name this part of it

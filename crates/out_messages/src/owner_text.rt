@@ -6,7 +6,6 @@ use crate::number::push_number;
 use crate::words::push_quoted;
 use d64_files::SlotNo;
 use d64_image::BlockNo;
-use d64_names::slot_name;
 use d64_survey::{Owner, Part, SHOWN_OWNERS, Survey};
 use std::alloc::AllocError;
 
@@ -31,7 +30,7 @@ pub(crate) fn push_part(
     ensures { OnOk result (out.new.items ≡ out.old.items ++ file_part survey.now slot part) }
 {
     out.extend_from_slice(part_text(part))?;
-    push_quoted(out, slot_name(survey, slot))
+    push_quoted(out, survey.slot_name(slot))
 }
 
 /// Appends an owner.

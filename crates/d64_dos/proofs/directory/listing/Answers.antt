@@ -2,7 +2,6 @@ use Rattle.std.proofs.Common.{◌≡◌, ℕ, List, Some, None, sym, ap, ◌∙�
 use Rattle.std.specs.Prelude.{slice_range}
 use Rattle.d64_image.specs.Image.{sector_at}
 use Rattle.d64_map.specs.Map.{map_block}
-use Rattle.d64_files.specs.Name.{name_in}
 use Rattle.d64_dos.specs.Listing.{rows_of}
 use Rattle.d64_dos.specs.Refusal.{refused_by}
 use Rattle.d64_dos.specs.declared.refusal.Refusal.TheVariants.{Directory}
@@ -35,9 +34,7 @@ returns-clause-listing c =
     let same : header ≡ sector_at image map_block = c.header_of-header.ensures.value in
     let long = c.header_of-header.ensures.block.0 in
     listing_by_fields image _ _ _ _ _
-    (c.in_ok-from_slice.ensures.items
-    ∙ c.name_in.ensures
-    ∙ ap (λ (bytes : List ℕ). name_in (slice_range bytes 0x90 0xA0)) same)
+    (c.in_ok-from_slice.ensures.items ∙ c.disk_name.ensures)
     (two_bytes header 0xA2 (omega (arith, long)) ∙ ap (λ (bytes : List ℕ). slice_range bytes 0xA2 0xA4) same)
     (two_bytes header 0xA5 (omega (arith, long)) ∙ ap (λ (bytes : List ℕ). slice_range bytes 0xA5 0xA7) same)
     (c.in_ok-rows_of.ensures ∙ ap rows_of c.in_ok-walk.ensures.slots ∙ rows-entries image)

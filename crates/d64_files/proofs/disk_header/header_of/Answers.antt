@@ -1,7 +1,7 @@
 use Rattle.std.proofs.Common.{length, ap, ◌∙◌, arith}
 use Rattle.d64_image.specs.Image.{sector_at}
 use Rattle.d64_image.proofs.Sizes.{size_least}
-use Rattle.d64_dos.proofs.directory.header_of.Goals as goal
+use Rattle.d64_files.proofs.disk_header.header_of.Goals as goal
 
 -- the image has the map's block
 pub sector-requires : goal.sector-requires
