@@ -1,48 +1,43 @@
 -- a file that is brought back is one file more, and one that was just deleted is the one from before
-use Rattle.std.proofs.Common.{◌≡◌, ◌≢◌, ℕ, zero, suc, cond, eq-eqb, ◌+◌, ◌==◌, ◌<◌, ◌≤◌, ◌||◌, Bool, true, false, not, eqb, List, [], ◌∷◌, ◌++◌, length, get_or, set, Option, Some, None, refl, sym, ap, ap₂, ◌∙◌, subst, inl, inr, arith}
+use Rattle.std.proofs.Common.{◌≡◌, ◌≢◌, ℕ, zero, suc, cond, eq-eqb, ◌+◌, ◌==◌, ◌<◌, Bool, true, false, not, eqb, List, [], ◌∷◌, length, get_or, Option, Some, None, refl, sym, ap, ap₂, ◌∙◌, subst, inl, inr, arith}
 use Rattle.std.specs.Prelude.{◌&&◌, All, find, is_some, bytes_eq}
 use Rattle.std.specs.List.{enumerate_from, list_any}
 use Rattle.std.specs.Option.{option_map, option_or, option_map_or, option_and_then}
 use Rattle.std.specs.FinSet as set
-use Rattle.std.proofs.lemmas.Bool.{cases_Bool, cases_lt, eqb-true}
-use Rattle.std.proofs.lemmas.List.{get_or-set_same, get_or-set_other, length-set, get_or_past}
-use Rattle.std.proofs.lemmas.List.Elements.{All-weaker, All-from_get_or}
+use Rattle.std.proofs.lemmas.Bool.{cases_Bool, eqb-true}
+use Rattle.std.proofs.lemmas.List.{get_or-set_same, get_or-set_other, length-set}
+use Rattle.std.proofs.lemmas.List.Elements.{All-from_get_or}
 use Rattle.std.proofs.lemmas.Slice.Eq.{bytes_eq-Decides}
 use Rattle.std.proofs.lemmas.List.Folds.{list_any_at, list_any_none}
 use Rattle.d64_image.specs.Image.{IsImage}
 use Rattle.d64_map.specs.Map.{free_blocks, with_map}
 use Rattle.d64_image.proofs.Pairs.{block_of-none}
 use Rattle.d64_files.specs.Chain.{chain, block_in, held_block}
-use Rattle.d64_files.specs.Clearing.{closed_type}
-use Rattle.d64_files.specs.Directory.{directory, slots, numbered_slots, owned_blocks, has_name, is_name_taken}
+use Rattle.d64_files.specs.Directory.{slots, numbered_slots, has_name, is_name_taken}
 use Rattle.d64_files.specs.FirstFault.{first_fault, sound_conditions}
 use Rattle.d64_files.specs.Name.{name_in}
 use Rattle.d64_files.specs.Ownership.{chain_at}
-use Rattle.d64_files.specs.Slot.{is_used, first_pair, name_of, size_of}
+use Rattle.d64_files.specs.Slot.{is_used, first_pair, name_of}
 use Rattle.d64_files.specs.Writing.{written_at}
-use Rattle.d64_files.specs.declared.dir_fault.DirFault.{DirFault}
 use Rattle.d64_files.specs.declared.kind.Kind.{Kind}
 use Rattle.d64_files.specs.declared.kind.Kind.TheVariants.{Del, Seq, Prg, Usr, Rel}
 use Rattle.d64_files.proofs.FirstFaults.{sound_tells}
 use Rattle.d64_effects.specs.Delete.{scratched_slots, scratched_disk}
 use Rattle.d64_effects.specs.Laws.{IsWritable}
 use Rattle.d64_effects.specs.Undelete.{cell_at, chain_left, undeleted_disk, CanComeBack}
-use Rattle.d64_effects.specs.View.{FileView, IsSound, view}
+use Rattle.d64_effects.specs.View.{IsSound, view}
 use Rattle.d64_effects.specs.KeepingLaws.{HasFile}
 use Rattle.d64_effects.specs.ViewAfter.{file_back}
 use Rattle.d64_effects.proofs.ClearedDisks.{is_used-cleared}
 use Rattle.d64_effects.proofs.ComeBack.{LeftBehind, left_behind, comes-back, map_anew-shows}
 use Rattle.d64_effects.proofs.KeptFiles.{undeleting-keeps}
-use Rattle.d64_effects.proofs.ScratchedDisks.{scratched-is_image, scratched-is_sound}
+use Rattle.d64_effects.proofs.ScratchedDisks.{scratched-is_sound}
 use Rattle.d64_effects.proofs.TypeBytes.{first_pair-typed, size_of-typed, field_of-typed}
 use Rattle.d64_scratched.specs.Scratched.{is_scratched}
 use Rattle.d64_dos.specs.Change.{Delete, Undelete}
-use Rattle.d64_dos.specs.Command.{image_after, refusal_of}
-use Rattle.d64_dos.specs.FileRefusals.{unsound_refusal}
 use Rattle.d64_dos.specs.Undelete.{is_scratched_as, chain_of, is_left, slot_to_undelete}
-use Rattle.d64_dos.specs.UndeleteLaws.{HasOneFileMore, UndeletingAddsOneFile, IsOnlyFileOf, BringsBack, UndeletingUndoesDeleting}
+use Rattle.d64_dos.specs.UndeleteLaws.{UndeletingAddsOneFile, IsOnlyFileOf, BringsBack, UndeletingUndoesDeleting}
 use Rattle.d64_dos.specs.WriteRefusal.{is_writable}
-use Rattle.d64_dos.specs.declared.refusal.Refusal.{Refusal}
 use Rattle.d64_dos.specs.declared.refusal.Refusal.TheVariants.{Directory}
 use Rattle.d64_dos.proofs.Restored.{IsLeft, is_left_as, is_whole_as, chosen, can_come_back, undeletable, some_slot, disk_back, slot_to_undelete-is, refused_by_slots}
 use Rattle.d64_dos.proofs.SameWords.{is_left_so}

@@ -1,6 +1,6 @@
 -- the deleted file that comes back
 use Rattle.std.proofs.Common.{◌≡◌, ℕ, suc, ◌+◌, ◌-◌, ◌==◌, ◌<◌, ◌≤◌, Bool, true, false, not, cond, List, [], ◌∷◌, length, get_or, Option, Some, None, refl, sym, ap, ap₂, ◌∙◌, subst, arith}
-use Rattle.std.specs.Prelude.{◌&&◌, All, filter, find, is_some, slice_get}
+use Rattle.std.specs.Prelude.{◌&&◌, filter, find, is_some, slice_get}
 use Rattle.std.specs.List.{enumerate_from, list_any}
 use Rattle.std.specs.Option.{option_map, option_or, option_map_or}
 use Rattle.std.specs.Ordering.{nat_cmp}
@@ -24,7 +24,6 @@ use Rattle.d64_survey.proofs.Owning.{chain_is_way}
 use Rattle.d64_dos.specs.Restoring.{is_whole_by, is_left_by, entry_back}
 use Rattle.d64_dos.specs.Undelete.{is_scratched_as, chain_of, is_left, is_claimed, slot_to_undelete, undelete_refusal, disk_with_file_back, view_with_file_back}
 use Rattle.d64_dos.specs.WriteRefusal.{is_writable}
-use Rattle.d64_dos.specs.declared.refusal.Refusal.{Refusal}
 use Rattle.d64_dos.specs.declared.refusal.Refusal.TheVariants.{NotFound, Exists, WrongType, Directory, Lost}
 use Rattle.d64_dos.proofs.SameWords.{left_tells, left_same, whole_same}
 

@@ -1,11 +1,11 @@
 -- on a sound disk the file of a slot is left, or whole, if and only if the reasons of the survey
 -- say so
-use Rattle.std.proofs.Common.{◌≡◌, ◌≢◌, ℕ, zero, suc, ◌==◌, ◌<◌, ◌≤◌, ◌||◌, Bool, true, false, not, cond, eqb, eq-eqb, List, [], ◌∷◌, ◌++◌, length, take, get_or, Option, Some, None, refl, sym, ap, ap₂, ◌∙◌, subst, inl, inr, arith}
+use Rattle.std.proofs.Common.{◌≡◌, ◌≢◌, ℕ, zero, suc, ◌==◌, ◌<◌, ◌||◌, Bool, true, false, not, cond, eqb, eq-eqb, List, [], ◌∷◌, ◌++◌, length, take, get_or, Option, Some, None, refl, sym, ap, ap₂, ◌∙◌, subst, inl, inr, arith}
 use Rattle.std.specs.Prelude.{◌&&◌, All, filter, nat_lt}
 use Rattle.std.specs.List.{list_any, list_all, flat_map}
 use Rattle.std.specs.Option.{option_map_or}
 use Rattle.std.specs.FinSet as set
-use Rattle.std.proofs.lemmas.Bool.{cases_Bool, or_parts, or_cases, and_parts, eqb-true}
+use Rattle.std.proofs.lemmas.Bool.{cases_Bool, or_cases, and_parts, eqb-true}
 use Rattle.std.proofs.lemmas.Bool.Decides.{eqb_tells, nat_tests}
 use Rattle.std.proofs.lemmas.List.Elements.{All-nil, All-cons, All-head, All-tail, All-weaker, All-from_get_or}
 use Rattle.std.proofs.lemmas.List.Folds.{list_any_at, list_any_none, list_any-append}
@@ -24,13 +24,13 @@ use Rattle.d64_scratched.specs.declared.loss.Loss.{Loss}
 use Rattle.d64_scratched.specs.declared.loss.Loss.TheVariants.{Chain as BrokenChain, Reused, Marked, Size, Claimed, Unreadable}
 use Rattle.d64_scratched.proofs.NotLost.{not_lost-restored}
 use Rattle.d64_survey.specs.Flaws.{any_unreadable}
-use Rattle.d64_survey.specs.Owners.{is_owned, is_unowned, way_slots}
+use Rattle.d64_survey.specs.Owners.{is_owned, is_unowned}
 use Rattle.d64_survey.specs.Way.{way, way_on, block_at, is_whole}
 use Rattle.d64_survey.specs.declared.way_end.WayEnd.{WayEnd}
 use Rattle.d64_survey.specs.declared.way_end.WayEnd.TheVariants.{End}
 use Rattle.d64_survey.proofs.FaultOrder.{owned_among}
 use Rattle.d64_survey.proofs.Owning.{chain_is_way, owned_are, slots_are}
-use Rattle.d64_survey.proofs.Steps.{off, loops, from_block, fresh_step, ends, goes_on}
+use Rattle.d64_survey.proofs.Steps.{off, loops, fresh_step, ends, goes_on}
 use Rattle.d64_survey.proofs.Told.{bounded}
 use Rattle.d64_dos.specs.Undelete.{chain_of, is_left, is_claimed}
 

@@ -36,7 +36,7 @@ use Rattle.d64_dos.specs.Refusal.{refused_by}
 use Rattle.d64_dos.specs.Step.{FileCommandsKeepDisksSound, IsMade, Leaves}
 use Rattle.d64_dos.specs.declared.command.Reply.{Reply}
 use Rattle.d64_dos.specs.declared.command.Reply.TheVariants.{Scratched}
-use Rattle.d64_dos.specs.Undelete.{slot_to_undelete, disk_with_file_back}
+use Rattle.d64_dos.specs.Undelete.{slot_to_undelete}
 use Rattle.d64_dos.specs.WriteRefusal.{has_room, is_writable, write_refusal}
 use Rattle.d64_dos.proofs.Restored.{chosen, can_come_back, undeletable, some_slot, disk_back, view_back}
 use Rattle.d64_dos.specs.declared.refusal.Refusal.{Refusal}

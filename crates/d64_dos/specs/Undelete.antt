@@ -1,5 +1,5 @@
 -- Which deleted file of a name comes back, when the command is refused, and the disk after it.
-use Rattle.std.specs.Prelude.{ℕ, nat_lt, nat_eq, ◌==◌, ◌&&◌, not, Bool, if◌then◌else◌, List, length, take, filter, find, bytes_eq, slice_get, Option, Some, None, is_some, option_map}
+use Rattle.std.specs.Prelude.{ℕ, nat_lt, nat_eq, ◌==◌, ◌&&◌, not, Bool, if◌then◌else◌, length, take, filter, find, bytes_eq, slice_get, Option, Some, None, is_some, option_map}
 use Rattle.std.specs.List.{list_any, list_all}
 use Rattle.std.specs.Option.{option_or, option_map_or}
 use Rattle.std.specs.FinSet as set

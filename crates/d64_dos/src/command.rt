@@ -161,8 +161,7 @@ pub fn apply_knowing(
     ensures accepted { OnOk result (image.new ≡ image_after image.old (change_of command.now)) }
     ensures changed { OnOk result (patch.new ≡ changed_blocks image.old image.new) }
     ensures back { OnOk result (restored_image image.new patch.new ≡ image.old) }
-    ensures unchanged { OnErr result (image.new ≡ image.old) }
-    ensures forgotten { OnErr result (patch.new ≡ []) }
+    ensures unchanged { OnErr result ((image.new ≡ image.old) × (patch.new ≡ [])) }
     ensures kind { length image.new ≡ length image.old }
     ensures step { IfOk result (λ reply. StartsFrom (change_of command.now) image.old → Leaves image.old (change_of command.now) reply image.new) }
     ensures sound { OnOk result (LeavesSound (change_of command.now) is_sound → IsSound image.new) }

@@ -33,7 +33,7 @@ returns-then-is_ok-clause-sound c =
 pub returns-else-is_ok-clause-unchanged : goal.returns-else-is_ok-clause-unchanged
 returns-else-is_ok-clause-unchanged c =
     let done = c.carried_out-answer in
-    on_err done.result (c.swap.ensures.image ∙ done.ensures.back ∙ nothing_back c.args.image.now c.args.patch.now c.requires.patch)
+    on_err done.result (c.swap.ensures.image ∙ done.ensures.back ∙ nothing_back c.args.image.now c.args.patch.now c.requires.patch, c.clear.ensures)
 
 -- the image has each block that the patch keeps, which was empty before
 kept : (image next : List (List ℕ)) (patch after : Kept) → (IsPatchOf image patch → IsPatchOf next after) → patch ≡ [] → IsPatchOf next after

@@ -1,6 +1,4 @@
-use Rattle.std.proofs.Common.{◌≡◌, List, ℕ, Option, Some, None, sym, ap, ap₂, ◌∙◌, subst}
-use Rattle.std.specs.Ordering.{nat_cmp}
-use Rattle.std.specs.FinSet as set
+use Rattle.std.proofs.Common.{◌≡◌, List, ℕ, Some, None, ap, ◌∙◌}
 use Rattle.d64_map.specs.Map.{free_blocks}
 use Rattle.d64_effects.specs.Write.{blocks_without}
 use Rattle.d64_scratched.specs.Scratched.{scratched_way}

@@ -1,4 +1,4 @@
-use Rattle.std.proofs.Common.{◌≡◌, ℕ, length, sym, ap, ap₂, ◌∙◌, subst}
+use Rattle.std.proofs.Common.{ℕ, length, sym, ap, ap₂, ◌∙◌, subst}
 use Rattle.d64_image.specs.BlockSet.{MembersAreBelow}
 use Rattle.d64_map.specs.Map.{with_map}
 use Rattle.d64_effects.specs.Undelete.{chain_left, undeleted_disk}
