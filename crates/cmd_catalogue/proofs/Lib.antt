@@ -1,3 +1,2 @@
-mod Answering
 mod FileRows
 mod LinkedRows

@@ -9,4 +9,3 @@ pub mod Script
 pub mod Title
 pub mod Head
 pub mod Catalogue
-pub mod Quiet

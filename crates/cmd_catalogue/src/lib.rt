@@ -2,7 +2,7 @@
 //! state, its files and, if wanted, its picture.
 #![tactic(auto)]
 
-mod catalogue_report;
+mod catalogue_printer;
 mod element;
 mod files;
 mod head;
@@ -13,4 +13,4 @@ mod style;
 mod title;
 mod url;
 
-pub use catalogue_report::CatalogueReport;
+pub use catalogue_printer::CataloguePrinter;

@@ -11,10 +11,8 @@ use Rattle.out_json_csv.specs.Checks.{check_object, check_row}
 use Rattle.out_json_csv.specs.Rows.{header_row, unanswered_row}
 use Rattle.out_json_csv.specs.Unanswered.{unread_object, no_dump_object, no_dump_error}
 use Rattle.out_messages.specs.CheckText.{check_text}
-use Rattle.out_messages.specs.FaultLines.{unread_line, wrong_length_line}
-use Rattle.program_batch.specs.Answers.{Answer, Rule}
-use Rattle.program_batch.specs.declared.report.Verdict.TheVariants.{Clean, Amiss, Failed}
-use Rattle.d64_g64.specs.DumpOf.{dump_of}
+use Rattle.program_batch.specs.Answers.{Rule}
+use Rattle.program_reports.specs.Printings.{Printing, survey_rule}
 
 -- the digest of bytes, if it is asked for
 abbrev pub digest_of : Bool → Bytes → Option Bytes
@@ -33,10 +31,10 @@ printed_unread Json digest name = line_of (unread_object name)
 printed_unread Csv digest name = unanswered_row name digest (codes "cannot be read")
 
 -- what is printed of bytes that are not a dump
-abbrev pub printed_wrong_length : Format → Bool → List ℕ → Bytes → List ℕ
-printed_wrong_length Text digest name bytes = []
-printed_wrong_length Json digest name bytes = line_of (no_dump_object name bytes)
-printed_wrong_length Csv digest name bytes = unanswered_row name digest (no_dump_error bytes)
+abbrev pub printed_no_dump : Format → Bool → List ℕ → Bytes → List ℕ
+printed_no_dump Text digest name bytes = []
+printed_no_dump Json digest name bytes = line_of (no_dump_object name bytes)
+printed_no_dump Csv digest name bytes = unanswered_row name digest (no_dump_error bytes)
 
 -- what is printed before the first result: the header row of CSV
 abbrev pub heading_of : Format → Bool → List ℕ
@@ -44,15 +42,17 @@ heading_of Text digest = []
 heading_of Json digest = []
 heading_of Csv digest = header_row digest
 
--- the result for bytes: the findings if they are a dump, and otherwise that their length is wrong
-abbrev pub answer_of : Format → Bool → List ℕ → Bytes → Option DumpView → Answer
-answer_of form digest name bytes None =
-    record { printed = printed_wrong_length form digest name bytes; complaint = wrong_length_line name bytes; verdict = Failed }
-answer_of form digest name bytes (Some dump) =
-    record { printed = printed_of form name dump (digest_of digest bytes); complaint = []; verdict = if is_amiss dump then Amiss else Clean }
+-- what `check` prints in a form, with digests or without
+abbrev pub check_printing : Format → Bool → Printing
+check_printing form digest = record {
+  heading = heading_of form digest;
+  of_dump = λ name bytes dump. printed_of form name dump (digest_of digest bytes);
+  of_unread = printed_unread form digest;
+  of_no_dump = printed_no_dump form digest;
+  is_amiss = is_amiss;
+}
 
 -- the rule of `check` in a form, with digests or without: the result for a file's bytes, or that it
 -- cannot be read
 abbrev pub check_rule : Format → Bool → Rule
-check_rule form digest name None = record { printed = printed_unread form digest name; complaint = unread_line name; verdict = Failed }
-check_rule form digest name (Some bytes) = answer_of form digest name bytes (dump_of bytes)
+check_rule form digest = survey_rule (check_printing form digest)

@@ -2,7 +2,6 @@
 //! wrong.
 #![tactic(auto)]
 
-mod check_report;
-mod printing;
+mod check_printer;
 
-pub use check_report::CheckReport;
+pub use check_printer::CheckPrinter;

@@ -11,11 +11,9 @@ use Rattle.program_arguments.specs.declared.jobs.Format.{Format}
 use Rattle.program_arguments.specs.declared.jobs.Format.TheVariants.{Text, Json, Csv}
 use Rattle.program_arguments.specs.declared.jobs.Leftovers.{Leftovers}
 use Rattle.out_json_csv.specs.Values.{line_of}
-use Rattle.d64_g64.specs.DumpOf.{dump_of}
 use Rattle.out_json_csv.specs.Unanswered.{unread_object, no_dump_object, no_dump_error}
-use Rattle.out_messages.specs.FaultLines.{unread_line, wrong_length_line}
-use Rattle.program_batch.specs.Answers.{Answer, Rule}
-use Rattle.program_batch.specs.declared.report.Verdict.TheVariants.{Clean, Amiss, Failed}
+use Rattle.program_batch.specs.Answers.{Rule}
+use Rattle.program_reports.specs.Printings.{Printing, survey_rule}
 use Rattle.cmd_files.specs.CsvRow.{csv_row, header_row, unanswered_row}
 use Rattle.cmd_files.specs.FileTable.{head_line, missing_lines}
 use Rattle.cmd_files.specs.Selections.{files_alone, deleted_alone, orphans_alone, files_and}
@@ -93,11 +91,11 @@ printed_unread Text leftovers name = []
 printed_unread Json leftovers name = line_of (unread_object name)
 printed_unread Csv leftovers name = unanswered_row leftovers name (codes "cannot be read")
 
--- what is printed of a file whose length no dump has
-abbrev pub printed_wrong_length : Format → Leftovers → Bytes → Bytes → List ℕ
-printed_wrong_length Text leftovers name bytes = []
-printed_wrong_length Json leftovers name bytes = line_of (no_dump_object name bytes)
-printed_wrong_length Csv leftovers name bytes = unanswered_row leftovers name (no_dump_error bytes)
+-- what is printed of bytes that are not a dump
+abbrev pub printed_no_dump : Format → Leftovers → Bytes → Bytes → List ℕ
+printed_no_dump Text leftovers name bytes = []
+printed_no_dump Json leftovers name bytes = line_of (no_dump_object name bytes)
+printed_no_dump Csv leftovers name bytes = unanswered_row leftovers name (no_dump_error bytes)
 
 -- what is printed before the first result: the header row of CSV
 abbrev pub heading_by : Format → Leftovers → List ℕ
@@ -108,14 +106,16 @@ heading_by Csv leftovers = header_row leftovers
 abbrev pub heading_of : Form → List ℕ
 heading_of form = heading_by form.format form.leftovers
 
--- the result for bytes: the files of a dump, amiss if a file is not whole or may be missing; and
--- otherwise that their length is wrong
-abbrev pub answer_of : Form → Bytes → Bytes → Option DumpView → Answer
-answer_of form name bytes None = record { printed = printed_wrong_length form.format form.leftovers name bytes; complaint = wrong_length_line name bytes; verdict = Failed }
-answer_of form name bytes (Some dump) =
-    record { printed = printed_of form name dump; complaint = []; verdict = if is_listing_amiss dump then Amiss else Clean }
+-- what `files` prints in a form; a dump is amiss if a file is not whole or may be missing
+abbrev pub files_printing : Form → Printing
+files_printing form = record {
+  heading = heading_of form;
+  of_dump = λ name bytes dump. printed_of form name dump;
+  of_unread = printed_unread form.format form.leftovers;
+  of_no_dump = printed_no_dump form.format form.leftovers;
+  is_amiss = is_listing_amiss;
+}
 
 -- the rule of `files` in a form: the result for a file's bytes, or that it cannot be read
 abbrev pub files_rule : Form → Rule
-files_rule form name None = record { printed = printed_unread form.format form.leftovers name; complaint = unread_line name; verdict = Failed }
-files_rule form name (Some bytes) = answer_of form name bytes (dump_of bytes)
+files_rule form = survey_rule (files_printing form)

@@ -16,4 +16,3 @@ pub mod Selections
 pub mod Files
 pub mod Extracted
 pub mod Extracts
-pub mod Quiet

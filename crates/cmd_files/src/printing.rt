@@ -1,8 +1,8 @@
 //! Printing the files of an image, in one of the three formats.
 ghost use Rattle.std.specs.Prelude.{◌≡◌, ◌++◌, IfOk, OnOk, length};
-ghost use Rattle.cmd_files.specs.Files.{printed_row, before_rows, after_rows, printed_rows, under_heading, is_section_wanted, section_rows, section_heading, section_of, all_rows, printed_of, printed_unread, printed_wrong_length, heading_of};
+ghost use Rattle.cmd_files.specs.Files.{printed_row, before_rows, after_rows, printed_rows, under_heading, is_section_wanted, section_rows, section_heading, section_of, all_rows, printed_of};
 
-use crate::csv_line::{files_header, no_dump_file_csv, row_csv, unread_file_csv};
+use crate::csv_line::row_csv;
 use crate::form::Form;
 use crate::json_line::row_json;
 use crate::missing::push_missing_lines;
@@ -11,7 +11,7 @@ use crate::table::push_head_line;
 use d64_image::Image;
 use d64_leftovers::{Row, RowList, Selection};
 use d64_survey::{Inspection, Survey};
-use out_json_csv::{Scratch, no_dump_json, unread_json};
+use out_json_csv::Scratch;
 use program_arguments::{Format, Leftovers};
 use std::alloc::AllocError;
 
@@ -72,20 +72,6 @@ impl Section {
             Section::Deleted => b"deleted\n",
             Section::Orphans => b"in no directory\n",
         }
-    }
-}
-
-/// Appends what is printed before the first result.
-pub(crate) fn print_heading(
-    form: Form,
-    scratch: &mut Scratch,
-    out: Vec<u8>,
-) -> Result<Vec<u8>, AllocError>
-    ensures { IfOk result (λ text. text.items ≡ out.items ++ heading_of form) }
-{
-    match form.format {
-        Format::Text | Format::Json => Ok(out),
-        Format::Csv => files_header(form.leftovers, scratch, out),
     }
 }
 
@@ -224,37 +210,4 @@ pub(crate) fn print_dump(
     let mut text = print_all_rows(form, scratch, name, all, head)?;
     print_after(form.format, all, &mut text)?;
     Ok(text)
-}
-
-/// Appends what is printed of a file that cannot be read.
-pub(crate) fn print_unread(
-    form: Form,
-    scratch: &mut Scratch,
-    name: &[u8],
-    out: Vec<u8>,
-) -> Result<Vec<u8>, AllocError>
-    ensures { IfOk result (λ text. text.items ≡ out.items ++ printed_unread form.format form.leftovers name.now) }
-{
-    match form.format {
-        Format::Text => Ok(out),
-        Format::Json => unread_json(scratch, name, out),
-        Format::Csv => unread_file_csv(form.leftovers, scratch, name, out),
-    }
-}
-
-/// Appends what is printed of a file with these bytes, which is not a dump.
-pub(crate) fn print_wrong_length(
-    form: Form,
-    scratch: &mut Scratch,
-    name: &[u8],
-    bytes: &[u8],
-    out: Vec<u8>,
-) -> Result<Vec<u8>, AllocError>
-    ensures { IfOk result (λ text. text.items ≡ out.items ++ printed_wrong_length form.format form.leftovers name.now bytes.now) }
-{
-    match form.format {
-        Format::Text => Ok(out),
-        Format::Json => no_dump_json(scratch, name, bytes, out),
-        Format::Csv => no_dump_file_csv(form.leftovers, scratch, name, bytes, out),
-    }
 }

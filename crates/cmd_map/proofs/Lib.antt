@@ -1,4 +1,3 @@
 pub mod StateRules
 pub mod Rows
-pub mod Answered
 pub mod FileRows

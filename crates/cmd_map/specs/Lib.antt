@@ -1,7 +1,6 @@
 pub mod States
 pub mod MapText
 pub mod Pictures
-pub mod Quiet
 pub mod Colours
 pub mod Shapes
 pub mod Cells

@@ -1,12 +1,9 @@
 -- What `map` prints of a file.
-use Rattle.std.specs.Prelude.{ℕ, List, [], Some, None, if◌then◌else◌}
-use Rattle.std.specs.Option.{option_map_or}
+use Rattle.std.specs.Prelude.{ℕ, List, []}
 use Rattle.d64_survey.specs.Dump.{DumpView}
 use Rattle.d64_survey.specs.Inspection.{is_amiss}
-use Rattle.out_messages.specs.FaultLines.{unread_line, wrong_length_line}
-use Rattle.program_batch.specs.Answers.{Answer, Rule}
-use Rattle.program_batch.specs.declared.report.Verdict.TheVariants.{Clean, Amiss, Failed}
-use Rattle.d64_g64.specs.DumpOf.{dump_of}
+use Rattle.program_batch.specs.Answers.{Rule}
+use Rattle.program_reports.specs.Printings.{Printing, survey_rule}
 use Rattle.program_arguments.specs.declared.jobs.PictureForm.{PictureForm}
 use Rattle.program_arguments.specs.declared.jobs.PictureForm.TheVariants.{Text, Svg}
 use Rattle.cmd_map.specs.MapText.{map_text}
@@ -17,16 +14,17 @@ abbrev pub picture_of : PictureForm → List ℕ → DumpView → List ℕ
 picture_of Text name dump = map_text name dump
 picture_of Svg name dump = svg_of name dump
 
--- the result for a dump
-abbrev pub answer_of : PictureForm → List ℕ → DumpView → Answer
-answer_of form name dump = record { printed = picture_of form name dump; complaint = []; verdict = if is_amiss dump then Amiss else Clean }
-
--- the result for a file of which only this line on the standard error is written
-abbrev pub failed_with : List ℕ → Answer
-failed_with line = record { printed = []; complaint = line; verdict = Failed }
+-- what `map` prints in a form: the map of a dump, and nothing else
+abbrev pub map_printing : PictureForm → Printing
+map_printing form = record {
+  heading = [];
+  of_dump = λ name bytes dump. picture_of form name dump;
+  of_unread = λ name. [];
+  of_no_dump = λ name bytes. [];
+  is_amiss = is_amiss;
+}
 
 -- the rule of `map` in a form: the result for a file's bytes if they are a dump, and otherwise that
--- it cannot be read or that its length is wrong
+-- it cannot be read or that they are no dump
 abbrev pub map_rule : PictureForm → Rule
-map_rule form name None = failed_with (unread_line name)
-map_rule form name (Some bytes) = option_map_or (answer_of form name) (dump_of bytes) (failed_with (wrong_length_line name bytes))
+map_rule form = survey_rule (map_printing form)

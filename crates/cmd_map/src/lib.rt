@@ -6,7 +6,7 @@ mod block_state;
 mod cells;
 mod colour;
 mod legend;
-mod map_report;
+mod map_printer;
 mod page_picture;
 mod region;
 mod shapes;
@@ -15,7 +15,7 @@ mod svg;
 mod text;
 
 pub use block_state::{BlockState, state_of};
-pub use map_report::MapReport;
+pub use map_printer::MapPrinter;
 pub use page_picture::page_svg;
 pub use style::push_picture_rules;
 pub use svg::map_svg;

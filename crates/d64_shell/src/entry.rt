@@ -12,15 +12,16 @@ use crate::asking::requested_job;
 use crate::extraction::setup_of;
 use crate::merging::merge_setup_of;
 use cmd_basic::{Tool, ToolJob};
-use cmd_catalogue::CatalogueReport;
-use cmd_check::CheckReport;
+use cmd_catalogue::CataloguePrinter;
+use cmd_check::CheckPrinter;
 use cmd_extract::Unpacker;
-use cmd_files::{FilesReport, Form};
-use cmd_map::MapReport;
+use cmd_files::{FilesPrinter, Form};
+use cmd_map::MapPrinter;
 use cmd_shell::{ShellJob, exit_status, refusals_of};
 use host_storage::{Host, HostFault};
 use program_arguments::Job;
 use program_exit::{NOT_RUN, report_no_job};
+use program_reports::SurveyReport;
 use program_surveys::{DifferenceJob, FileNames, MergeJob, SurveyJob};
 use script_run::{Nobody, Observer};
 use script_text::input::InputStream;
@@ -244,7 +245,8 @@ impl<'l, L: Observer> ObservedProgram<'l, L> {
                 format,
                 names,
             } => {
-                let report = CheckReport::new(alloc, format, digest);
+                let printer = CheckPrinter::new(alloc, format, digest);
+                let report = SurveyReport::new(alloc, printer);
                 SurveyJob::new(alloc, FileNames::of(&names)).run(
                     report, input, output, faults, host,
                 )
@@ -255,7 +257,8 @@ impl<'l, L: Observer> ObservedProgram<'l, L> {
                 names,
             } => {
                 let form = Form { format, leftovers };
-                let report = FilesReport::new(alloc, form);
+                let printer = FilesPrinter::new(alloc, form);
+                let report = SurveyReport::new(alloc, printer);
                 SurveyJob::new(alloc, FileNames::of(&names)).run(
                     report, input, output, faults, host,
                 )
@@ -273,14 +276,16 @@ impl<'l, L: Observer> ObservedProgram<'l, L> {
                 )
             }
             Job::Map { format, file } => {
-                let report = MapReport::new(alloc, format);
+                let printer = MapPrinter::new(format);
+                let report = SurveyReport::new(alloc, printer);
                 let files = [file];
                 SurveyJob::new(alloc, FileNames::Given(&files)).run(
                     report, input, output, faults, host,
                 )
             }
             Job::Catalogue { page, names } => {
-                let report = CatalogueReport::new(alloc, page);
+                let printer = CataloguePrinter::new(alloc, page);
+                let report = SurveyReport::new(alloc, printer);
                 SurveyJob::new(alloc, FileNames::of(&names)).run(
                     report, input, output, faults, host,
                 )

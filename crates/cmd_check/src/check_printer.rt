@@ -1,0 +1,94 @@
+//! `CheckPrinter`: what `check` prints of each file of a run.
+ghost use Rattle.std.specs.Prelude.{◌≡◌};
+ghost use Rattle.cmd_check.specs.Check.{check_printing};
+
+use d64_survey::Inspection;
+use out_json_csv::{
+    Scratch, check_csv, check_json, csv_header, no_dump_csv, no_dump_json, unread_csv, unread_json,
+};
+use out_messages::check_text;
+use program_arguments::Format;
+use program_reports::Printer;
+use sha2::{Digest, Sha256};
+use std::alloc::{AllocError, Global};
+
+/// The printer of `check`, with the buffers that it uses for one file after another.
+#[derive(Drop)]
+pub struct CheckPrinter {
+    form: Format,
+    has_digest: bool,
+    scratch: Scratch,
+}
+
+impl CheckPrinter {
+    /// Returns a printer in a form, with the digest of each file if that is asked for.
+    pub fn new(alloc: Global, form: Format, has_digest: bool) -> CheckPrinter
+        ensures form { result.form ≡ form }
+        ensures digest { result.has_digest ≡ has_digest }
+    {
+        CheckPrinter {
+            form,
+            has_digest,
+            scratch: Scratch::new(alloc),
+        }
+    }
+}
+
+impl Printer for CheckPrinter {
+    ghost printing = { λ printer. check_printing printer.form printer.has_digest };
+
+    fn print_heading(&mut self, out: Vec<u8>) -> Result<Vec<u8>, AllocError> {
+        match self.form {
+            Format::Text | Format::Json => Ok(out),
+            Format::Csv => csv_header(&mut self.scratch, self.has_digest, out),
+        }
+    }
+
+    fn print_dump(
+        &mut self,
+        name: &[u8],
+        bytes: &[u8],
+        all: &Inspection,
+        out: Vec<u8>,
+    ) -> Result<Vec<u8>, AllocError> {
+        let digest = if self.has_digest {
+            Some(Sha256::digest(bytes))
+        } else {
+            None
+        };
+        match self.form {
+            Format::Text => {
+                let mut text = out;
+                check_text(name, all, &mut text)?;
+                Ok(text)
+            }
+            Format::Json => check_json(&mut self.scratch, name, all, digest.as_ref(), out),
+            Format::Csv => check_csv(&mut self.scratch, name, all, digest.as_ref(), out),
+        }
+    }
+
+    fn print_unread(&mut self, name: &[u8], out: Vec<u8>) -> Result<Vec<u8>, AllocError> {
+        match self.form {
+            Format::Text => Ok(out),
+            Format::Json => unread_json(&mut self.scratch, name, out),
+            Format::Csv => unread_csv(&mut self.scratch, name, self.has_digest, out),
+        }
+    }
+
+    fn print_no_dump(
+        &mut self,
+        name: &[u8],
+        bytes: &[u8],
+        out: Vec<u8>,
+    ) -> Result<Vec<u8>, AllocError> {
+        match self.form {
+            Format::Text => Ok(out),
+            Format::Json => no_dump_json(&mut self.scratch, name, bytes, out),
+            Format::Csv => no_dump_csv(&mut self.scratch, name, self.has_digest, bytes, out),
+        }
+    }
+
+    fn is_amiss(&self, all: &Inspection) -> bool {
+        all.is_amiss()
+    }
+}

@@ -1,0 +1,77 @@
+//! `SurveyReport`: the report of a survey, by a printer.
+ghost use Rattle.std.specs.Prelude.{◌≡◌, IfOk};
+ghost use Rattle.program_reports.specs.Printings.{survey_rule};
+ghost use Rattle.program_reports.specs.Quiet.{survey_rule-is_quiet};
+
+use crate::dump_buffer::DumpBuffer;
+use crate::printer::Printer;
+use out_messages::{unread_line, wrong_length_line};
+use program_batch::{Report, ReportBuffer, Verdict};
+use std::alloc::{AllocError, Global};
+use std::mem;
+
+/// The report of a survey: each file is read as a dump, in buffers that are used for one file after
+/// another, and a printer prints it.
+#[derive(Drop)]
+pub struct SurveyReport<P> {
+    alloc: Global,
+    printer: P,
+    dump: DumpBuffer,
+}
+
+impl<P: Printer + Drop> SurveyReport<P> {
+    /// Returns a report by a printer.
+    pub fn new(alloc: Global, printer: P) -> Result<SurveyReport<P>, AllocError>
+        ensures { IfOk result (λ report. report.printer ≡ printer) }
+    {
+        match DumpBuffer::new(alloc) {
+            Ok(dump) => Ok(SurveyReport {
+                alloc,
+                printer,
+                dump,
+            }),
+            Err(error) => Err(error),
+        }
+    }
+}
+
+impl<P: Printer + Drop> Report for SurveyReport<P> {
+    ghost rule = { λ report. survey_rule (P.printing report.printer) };
+
+    ghost heading = { λ report. (P.printing report.printer).heading };
+
+    ghost quiet = { λ report. survey_rule-is_quiet (P.printing report.printer) };
+
+    fn head(&mut self, buffer: &mut ReportBuffer) -> Result<(), AllocError> {
+        buffer.clear();
+        let out = mem::replace(&mut buffer.printed, Vec::new(self.alloc));
+        buffer.printed = self.printer.print_heading(out)?;
+        Ok(())
+    }
+
+    fn answer(
+        &mut self,
+        name: &[u8],
+        bytes: Option<&[u8]>,
+        buffer: &mut ReportBuffer,
+    ) -> Result<Verdict, AllocError> {
+        buffer.clear();
+        let out = mem::replace(&mut buffer.printed, Vec::new(self.alloc));
+        let Some(bytes) = bytes else {
+            buffer.printed = self.printer.print_unread(name, out)?;
+            unread_line(&mut buffer.complaint, name)?;
+            return Ok(Verdict::Failed);
+        };
+        let Some(all) = self.dump.inspect(bytes)? else {
+            buffer.printed = self.printer.print_no_dump(name, bytes, out)?;
+            wrong_length_line(&mut buffer.complaint, name, bytes)?;
+            return Ok(Verdict::Failed);
+        };
+        buffer.printed = self.printer.print_dump(name, bytes, &all, out)?;
+        if self.printer.is_amiss(&all) {
+            Ok(Verdict::Amiss)
+        } else {
+            Ok(Verdict::Clean)
+        }
+    }
+}
