@@ -1,31 +1,37 @@
 -- Runs of tools that store their results, by what their steps leave.
-use Rattle.std.proofs.Common.{◌≡◌, ℕ, List, [], ◌++◌, length, take, Option, None, Result, Ok, Err, inl, inr, refl, sym, ap, ◌∙◌, ◌-◌, nat_le, cond, false, codes, append_assoc}
+use Rattle.std.proofs.Common.{◌≡◌, ℕ, List, [], ◌++◌, length, take, Option, Some, None, Result, Ok, Err, inl, inr, refl, sym, ap, ◌∙◌, ◌-◌, nat_le, cond, false, codes, append_assoc}
 use Rattle.std.specs.List.{flat_map}
 use Rattle.cbm_text.specs.declared.faulty_text.FaultyLine.{FaultyLine}
-use Rattle.script_text.specs.Input.{IsUnreadable}
+use Rattle.script_text.specs.Input.{IsUnreadable, Reading}
 use Rattle.script_text.specs.Output.{Account}
 use Rattle.host_storage.specs.Files.{HostState}
 use Rattle.host_storage.specs.declared.host.HostFault.{HostFault}
 use Rattle.host_storage.specs.declared.host.HostFault.TheVariants as files
-use Rattle.program_exit.specs.Outside.{Outside}
+use Rattle.program_console.specs.Outside.{Outside, outside_of}
 use Rattle.out_messages.specs.Words.{count_of}
 use Rattle.cmd_basic.specs.RefusedText.{faulty_line, more_lines, most_lines, refused_text}
-use Rattle.cmd_basic.specs.ToolRuns.{EndedToolTo, ReportsStored, TakesInput}
+use Rattle.cmd_basic.specs.ToolRuns.{EndedToolTo, RanToolOn, ReportsStored, TakesInput}
 use Rattle.cmd_basic.specs.Tools.{HasStored, Refuses, answer_of_store, fault_of_store}
 use Rattle.cmd_basic.specs.declared.tools.Tool.{Tool}
 use Rattle.cmd_basic.specs.declared.tools.Tool.TheVariants.{Petcat, Crunch}
 use Rattle.cmd_basic.specs.declared.tools.ToolFault.{ToolFault}
 use Rattle.cmd_basic.specs.declared.tools.ToolFault.TheVariants.{Read, Write, Memory, Text, NotBasic}
 
+-- what a tool has done on the input or a file it has done whatever is reported of it
+pub ran_reported : {A : Type 0} (tool : Tool) (name : Option (List ℕ)) (old : Outside) (reader : Option (List ℕ)) (reading : Reading) (output before after : Account) (host : HostState) (answer : Result A ToolFault)
+    → RanToolOn tool name old (outside_of reader reading output before host) answer → RanToolOn tool name old (outside_of reader reading output after host) answer
+ran_reported tool None old reader reading output before after host answer ran = ran
+ran_reported tool (Some name) old reader reading output before after host answer ran = ran
+
 -- a tool has not had its input, and stored nothing
-pub ended_without_input : (tool : Tool) (name : Option (List ℕ)) (target : List ℕ) (old new : Outside) (faults reported : Account) (status : ℕ) (fault : ToolFault) (answer : Result (Unit {0}) ToolFault)
-    → answer ≡ Err fault → TakesInput name old new (Err fault) → new.output ≡ old.output → (name ≡ None → fault ≡ Read → IsUnreadable new.reading)
-    → ReportsStored tool name [] target new.host.files answer faults reported status → EndedToolTo tool name target old new faults reported status
-ended_without_input tool name target old new faults reported status fault answer is takes output due reports = (
+pub ended_without_input : (tool : Tool) (name : Option (List ℕ)) (target : List ℕ) (old new : Outside) (status : ℕ) (fault : ToolFault)
+    → TakesInput name old.reader new.reader old.host new.host (Err fault) → new.output ≡ old.output → (name ≡ None → fault ≡ Read → IsUnreadable new.reading)
+    → ReportsStored {A = Unit {0}} tool name [] target new.host.files (Err fault) old.error new.error status → EndedToolTo tool name target old new status
+ended_without_input tool name target old new status fault takes output due reports = (
   Err fault,
-  answer,
-  record { middle = new; takes = takes; stores = (is, refl); reader = refl; output = output },
-  (λ none unread. due none (same_fault answer fault Read is unread)),
+  Err fault,
+  record { host = new.host; takes = takes; stores = (refl, refl); output = output },
+  (λ none unread. due none (same_fault (Err fault) fault Read refl unread)),
   reports,
 )
   where
@@ -33,14 +39,14 @@ ended_without_input tool name target old new faults reported status fault answer
     same_fault answer a b is other = cc
 
 -- it has had its input, and stored what it made of it, or not
-pub ended_with_input : (tool : Tool) (name : Option (List ℕ)) (target : List ℕ) (old middle new : Outside) (faults reported : Account) (status : ℕ) (bytes : List ℕ) (answer : Result (Unit {0}) ToolFault)
-    → TakesInput name old middle (Ok bytes) → HasStored tool bytes target middle.host new.host answer → (answer ≡ Err Read → ⊥)
-    → new.reader ≡ middle.reader → new.output ≡ old.output → ReportsStored tool name bytes target new.host.files answer faults reported status
-    → EndedToolTo tool name target old new faults reported status
-ended_with_input tool name target old middle new faults reported status bytes answer takes stored unread reader output reports = (
+pub ended_with_input : (tool : Tool) (name : Option (List ℕ)) (target : List ℕ) (old new : Outside) (host : HostState) (status : ℕ) (bytes : List ℕ) (answer : Result (Unit {0}) ToolFault)
+    → TakesInput name old.reader new.reader old.host host (Ok bytes) → HasStored tool bytes target host new.host answer → (answer ≡ Err Read → ⊥)
+    → new.output ≡ old.output → ReportsStored tool name bytes target new.host.files answer old.error new.error status
+    → EndedToolTo tool name target old new status
+ended_with_input tool name target old new host status bytes answer takes stored unread output reports = (
   Ok bytes,
   answer,
-  record { middle = middle; takes = takes; stores = stored; reader = reader; output = output },
+  record { host = host; takes = takes; stores = stored; output = output },
   (λ none is. absurd (unread is)),
   reports,
 )

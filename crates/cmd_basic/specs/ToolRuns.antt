@@ -21,7 +21,7 @@ use Rattle.cmd_basic.specs.declared.tools.Tool.{Tool}
 use Rattle.cmd_basic.specs.declared.tools.ToolFault.{ToolFault}
 use Rattle.cmd_basic.specs.declared.tools.ToolFault.TheVariants as tool_faults
 use Rattle.program_exit.specs.declared.program_fault.ProgramFault.TheVariants.{Read, Write, Memory}
-use Rattle.program_exit.specs.Outside.{Outside}
+use Rattle.program_console.specs.Outside.{Outside}
 use Rattle.program_exit.specs.Faults.{Reports}
 use Rattle.program_batch.specs.Reasons.{IsWriteReason, with_known_reason}
 use Rattle.program_batch.specs.Runs.{file_limit}
@@ -62,11 +62,11 @@ ReportsResult (Err (tool_faults.Memory error)) faults reported status = Reports 
 
 -- a tool has taken its input, of the standard input or of the host file with this name; or it could
 -- not, by this fault
-abbrev pub TakesInput : Option (List ℕ) → Outside → Outside → Result (List ℕ) ToolFault → Type 0
-TakesInput None old new (Ok bytes) = HasRead old.reader new.reader bytes × (new.host ≡ old.host) × (new.output ≡ old.output)
-TakesInput None old new (Err fault) = ReadsNot old.reader new.reader fault × (new.host ≡ old.host) × (new.output ≡ old.output)
-TakesInput (Some name) old new taken = (new.reader ≡ old.reader) × (new.output ≡ old.output)
-    × (fetched : Result (List ℕ) HostFault) × FetchesFile old.host name file_limit fetched new.host × (taken ≡ taken_of fetched)
+abbrev pub TakesInput : Option (List ℕ) → Option (List ℕ) → Option (List ℕ) → HostState → HostState → Result (List ℕ) ToolFault → Type 0
+TakesInput None reader left old new (Ok bytes) = HasRead reader left bytes × (new ≡ old)
+TakesInput None reader left old new (Err fault) = ReadsNot reader left fault × (new ≡ old)
+TakesInput (Some name) reader left old new taken =
+    (left ≡ reader) × (fetched : Result (List ℕ) HostFault) × FetchesFile old name file_limit fetched new × (taken ≡ taken_of fetched)
 
 -- what a tool has stored of the input that was taken with this result; nothing is stored if it
 -- could not be taken
@@ -80,12 +80,11 @@ bytes_of (Ok bytes) = bytes
 bytes_of (Err fault) = []
 
 -- a tool that has taken these bytes has run on the input, or on the host file with this name, to
--- the target file; nothing was written
+-- the target file; nothing was printed
 pub record RanToolTo (tool : Tool) (name : Option (List ℕ)) (target : List ℕ) (taken : Result (List ℕ) ToolFault) (old new : Outside) (answer : Result (Unit {0}) ToolFault) : Type 0 where
-  pub middle : Outside
-  pub takes : TakesInput name old middle taken
-  pub stores : StoresTaken tool taken target middle.host new.host answer
-  pub reader : new.reader ≡ middle.reader
+  pub host : HostState
+  pub takes : TakesInput name old.reader new.reader old.host host taken
+  pub stores : StoresTaken tool taken target host new.host answer
   pub output : new.output ≡ old.output
 
 -- the faulty lines of a text whose program is loaded at an address are reported, with status 1; or
@@ -118,19 +117,19 @@ ReportsStored tool name bytes target all (Err (tool_faults.Memory error)) faults
 
 -- how a tool ended that stores its result; it reports a fault of reading its input only if that
 -- cannot be read to its end
-abbrev pub EndedToolTo : Tool → Option (List ℕ) → List ℕ → Outside → Outside → Account → Account → ℕ → Type 0
-EndedToolTo tool name target old new faults reported status =
+abbrev pub EndedToolTo : Tool → Option (List ℕ) → List ℕ → Outside → Outside → ℕ → Type 0
+EndedToolTo tool name target old new status =
     (taken : Result (List ℕ) ToolFault) × (answer : Result (Unit {0}) ToolFault) × RanToolTo tool name target taken old new answer
-    × (name ≡ None → answer ≡ Err tool_faults.Read → IsUnreadable new.reading) × ReportsStored tool name (bytes_of taken) target new.host.files answer faults reported status
+    × (name ≡ None → answer ≡ Err tool_faults.Read → IsUnreadable new.reading) × ReportsStored tool name (bytes_of taken) target new.host.files answer old.error new.error status
 
 -- how a tool ended that prints its result; it reports a fault of reading its input, or of writing,
 -- only if the input cannot be read to its end, or a write or a flush has failed
-abbrev pub EndedTool : Tool → Option (List ℕ) → Outside → Outside → Account → Account → ℕ → Type 0
-EndedTool tool name old new faults reported status =
+abbrev pub EndedTool : Tool → Option (List ℕ) → Outside → Outside → ℕ → Type 0
+EndedTool tool name old new status =
     (answer : Result (Unit {0}) ToolFault) × RanToolOn tool name old new answer
-    × (name ≡ None → ReadsWith answer new.reading) × WritesWith answer old.output.has_failed new.output.has_failed × ReportsResult answer faults reported status
+    × (name ≡ None → ReadsWith answer new.reading) × WritesWith answer old.output.has_failed new.output.has_failed × ReportsResult answer old.error new.error status
 
 -- how a tool ended whose result goes to the output, or to the host file with this name
-abbrev pub EndedConversion : Tool → Option (List ℕ) → Option (List ℕ) → Outside → Outside → Account → Account → ℕ → Type 0
-EndedConversion tool name None old new faults reported status = EndedTool tool name old new faults reported status
-EndedConversion tool name (Some target) old new faults reported status = EndedToolTo tool name target old new faults reported status
+abbrev pub EndedConversion : Tool → Option (List ℕ) → Option (List ℕ) → Outside → Outside → ℕ → Type 0
+EndedConversion tool name None old new status = EndedTool tool name old new status
+EndedConversion tool name (Some target) old new status = EndedToolTo tool name target old new status

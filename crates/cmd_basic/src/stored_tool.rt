@@ -2,13 +2,12 @@
 //! is reported in the form of compilers.
 ghost use Rattle.std.specs.Prelude.{◌≡◌, ◌≤◌, ◌⊎◌, IfErr, IfOk, Ok, Err, Option, None, length, option_copied};
 ghost use Rattle.script_text.specs.Input.{IsUnread, IsUnreadable, reading_of};
-ghost use Rattle.script_text.specs.Output.{Account};
 ghost use Rattle.script_text.specs.Script.{script_limit};
 ghost use Rattle.program_batch.specs.Reasons.{IsWriteReason, with_known_reason};
-ghost use Rattle.program_batch.specs.Runs.{account_at};
+ghost use Rattle.program_console.specs.Console.{IsFresh, SameStreams};
+ghost use Rattle.program_console.specs.Outside.{account_at, outside_at};
 ghost use Rattle.program_batch.specs.declared.reason.Reason.{Reason};
 ghost use Rattle.out_messages.specs.FaultLines.{unwritten_line};
-ghost use Rattle.program_exit.specs.Outside.{outside_of};
 ghost use Rattle.cmd_basic.specs.ToolRuns.{EndedToolTo, ReportsProgram, ReportsText, ReportsStored, ReportsUnwritten, TakesInput};
 ghost use Rattle.cmd_basic.specs.Tools.{HasStored, fault_of_store, start_of};
 
@@ -19,6 +18,7 @@ use cbm_text::ListFault;
 use host_storage::{Host, HostFault};
 use out_messages::unwritten_line;
 use program_batch::{push_known_reason, reason_unwritten};
+use program_console::Console;
 use program_exit::{ALL_ACCEPTED, NOT_RUN, ProgramFault, SOME_REFUSED, fetch_file};
 use script_commands::status_from::of_list_fault;
 use script_text::input::InputStream;
@@ -40,29 +40,33 @@ impl<'n> StoredTool<'n> {
     /// Stores what the tool makes of its file, or of the input, and returns the exit status.
     /// Nothing is stored if it refuses the input, the input cannot be read, memory runs out, or the
     /// store is refused.
-    pub(crate) fn run<R: Read, F: Write, H: Host>(
+    pub(crate) fn run<R: Read, W: Write, F: Write, H: Host>(
         self,
         alloc: Global,
-        input: &mut InputStream<'_, R>,
-        faults: &mut OutputStream<'_, F>,
+        console: &mut Console<'_, R, W, F>,
         host: &mut H,
     ) -> u8
-        requires unread { IsUnread (reading_of input.old.reads input.old.came input.old.has_failed) }
-        ensures input { input.new.reader.ghost_name ≡ input.old.reader.ghost_name }
-        ensures faults { faults.new.writer.ghost_name ≡ faults.old.writer.ghost_name }
-        ensures ended { (output : Account) → EndedToolTo self.entry.tool (option_copied self.entry.file) self.entry.target.now
-            (outside_of (R.remaining input.old.reader.now) (reading_of input.old.reads input.old.came input.old.has_failed) output (H.state host.old))
-            (outside_of (R.remaining input.new.reader.now) (reading_of input.new.reads input.new.came input.new.has_failed) output (H.state host.new))
-            (account_at F.contents faults.old) (account_at F.contents faults.new) result }
+        requires fresh { IsFresh console.old }
+        ensures same { SameStreams console.old console.new }
+        ensures unprinted { console.new.outputs.output ≡ console.old.outputs.output }
+        ensures ended { EndedToolTo self.entry.tool (option_copied self.entry.file) self.entry.target.now
+            (outside_at R.remaining W.contents F.contents console.old (H.state host.old))
+            (outside_at R.remaining W.contents F.contents console.new (H.state host.new)) result }
         ensures status { result ≤ 2 }
-        ensures silent { result ≡ 0 → faults.new ≡ faults.old }
+        ensures silent { result ≡ 0 → console.new.outputs.faults ≡ console.old.outputs.faults }
     {
-        match self.taken(alloc, input, host) {
+        match self.taken(alloc, &mut console.input, host) {
             Ok(bytes) => {
                 let answer = self.store(alloc, bytes.as_slice(), host);
-                self.report(alloc, bytes.as_slice(), answer, host, faults)
+                self.report(
+                    alloc,
+                    bytes.as_slice(),
+                    answer,
+                    host,
+                    &mut console.outputs.faults,
+                )
             }
-            Err(fault) => self.report(alloc, b"", Err(fault), host, faults),
+            Err(fault) => { self.report(alloc, b"", Err(fault), host, &mut console.outputs.faults) }
         }
     }
 
@@ -75,12 +79,8 @@ impl<'n> StoredTool<'n> {
     ) -> Result<Vec<u8>, ToolFault>
         requires unread { IsUnread (reading_of input.old.reads input.old.came input.old.has_failed) }
         ensures input { input.new.reader.ghost_name ≡ input.old.reader.ghost_name }
-        ensures bytes { (output : Account) → IfOk result (λ bytes. TakesInput (option_copied self.entry.file)
-            (outside_of (R.remaining input.old.reader.now) (reading_of input.old.reads input.old.came input.old.has_failed) output (H.state host.old))
-            (outside_of (R.remaining input.new.reader.now) (reading_of input.new.reads input.new.came input.new.has_failed) output (H.state host.new)) (Ok bytes.items)) }
-        ensures fault { (output : Account) → IfErr result (λ fault. TakesInput (option_copied self.entry.file)
-            (outside_of (R.remaining input.old.reader.now) (reading_of input.old.reads input.old.came input.old.has_failed) output (H.state host.old))
-            (outside_of (R.remaining input.new.reader.now) (reading_of input.new.reads input.new.came input.new.has_failed) output (H.state host.new)) (Err fault)) }
+        ensures bytes { IfOk result (λ bytes. TakesInput (option_copied self.entry.file) (R.remaining input.old.reader.now) (R.remaining input.new.reader.now) (H.state host.old) (H.state host.new) (Ok bytes.items)) }
+        ensures fault { IfErr result (λ fault. TakesInput (option_copied self.entry.file) (R.remaining input.old.reader.now) (R.remaining input.new.reader.now) (H.state host.old) (H.state host.new) (Err fault)) }
         ensures within { IfOk result (λ bytes. length bytes.items ≤ script_limit) }
         ensures reads { option_copied self.entry.file ≡ None → result ≡ Err ToolFault.Read → IsUnreadable (reading_of input.new.reads input.new.came input.new.has_failed) }
     {

@@ -1,19 +1,19 @@
 //! A tool on the input or on a file, to the output, and its exit status.
-ghost use Rattle.std.specs.Prelude.{◌≡◌, ◌≤◌, false, IfErr, IsOk, None, OnOk, option_copied, true};
-ghost use Rattle.script_text.specs.Input.{IsUnread, reading_of};
+ghost use Rattle.std.specs.Prelude.{◌≡◌, ◌≤◌, IfErr, IsOk, None, OnOk, option_copied, true};
+ghost use Rattle.script_text.specs.Input.{reading_of};
 ghost use Rattle.script_text.specs.Output.{Writes};
-ghost use Rattle.program_batch.specs.Runs.{account_at};
+ghost use Rattle.program_console.specs.Console.{IsDelivered, IsFresh, SameStreams};
+ghost use Rattle.program_console.specs.Outside.{account_at, outside_at};
 ghost use Rattle.script_text.specs.Status.{status_line};
 ghost use Rattle.cmd_basic.specs.ToolRuns.{EndedConversion, RanToolOn, ReportsResult};
-ghost use Rattle.program_exit.specs.Outside.{outside_at};
 ghost use Rattle.cmd_basic.specs.Tools.{ReadsWith, HasSmallLine, WritesWith};
 
 use crate::stored_tool::StoredTool;
 use crate::tools::{Tool, ToolFault};
 use host_storage::{Host, HostFault};
+use program_console::Console;
 use program_exit::{ALL_ACCEPTED, ProgramFault, SOME_REFUSED, fetch_file};
 use script_commands::status_from::{of_basic_fault, of_list_fault};
-use script_text::input::InputStream;
 use script_text::output::OutputStream;
 use script_text::status::Status;
 use std::alloc::Global;
@@ -34,90 +34,81 @@ impl<'n> ToolJob<'n> {
     pub fn run<R: Read, W: Write, F: Write, H: Host>(
         self,
         alloc: Global,
-        input: &mut InputStream<'_, R>,
-        output: &mut OutputStream<'_, W>,
-        faults: &mut OutputStream<'_, F>,
+        console: &mut Console<'_, R, W, F>,
         host: &mut H,
     ) -> u8
-        requires unread { IsUnread (reading_of input.old.reads input.old.came input.old.has_failed) }
-        requires unfailed { output.old.has_failed ≡ false }
-        requires delivered { output.old.is_delivered ≡ true }
-        ensures input { input.new.reader.ghost_name ≡ input.old.reader.ghost_name }
-        ensures output { output.new.writer.ghost_name ≡ output.old.writer.ghost_name }
-        ensures faults { faults.new.writer.ghost_name ≡ faults.old.writer.ghost_name }
+        requires fresh { IsFresh console.old }
+        ensures same { SameStreams console.old console.new }
         ensures ended { EndedConversion self.entry.tool (option_copied self.entry.file) (option_copied self.entry.target)
-            (outside_at R.remaining input.old W.contents output.old H.state host.old)
-            (outside_at R.remaining input.new W.contents output.new H.state host.new)
-            (account_at F.contents faults.old) (account_at F.contents faults.new) result }
+            (outside_at R.remaining W.contents F.contents console.old (H.state host.old))
+            (outside_at R.remaining W.contents F.contents console.new (H.state host.new)) result }
         ensures status { result ≤ 2 }
-        ensures delivered { result ≡ 0 → (output.new.is_delivered ≡ true) × (output.new.has_failed ≡ false) }
-        ensures silent { result ≡ 0 → faults.new ≡ faults.old }
+        ensures delivered { result ≡ 0 → IsDelivered console.new.outputs.output }
+        ensures silent { result ≡ 0 → console.new.outputs.faults ≡ console.old.outputs.faults }
     {
         let Some(target) = self.target else {
-            let answer = run_tool(alloc, self.tool, self.file, input, output, host);
-            return report_result(answer, faults);
+            let answer = run_tool(alloc, self.tool, self.file, console, host);
+            return report_result(answer, &mut console.outputs.faults);
         };
         let job = StoredTool {
             tool: self.tool,
             file: self.file,
             target,
         };
-        job.run(alloc, input, faults, host)
+        job.run(alloc, console, host)
     }
 }
 
 /// Runs the tool on the file that the host has under this name, or on the input, and flushes the
 /// output.
-fn run_tool<R: Read, W: Write, H: Host>(
+fn run_tool<R: Read, W: Write, F: Write, H: Host>(
     alloc: Global,
     tool: Tool,
     name: Option<&str>,
-    input: &mut InputStream<'_, R>,
-    output: &mut OutputStream<'_, W>,
+    console: &mut Console<'_, R, W, F>,
     host: &mut H,
 ) -> Result<(), ToolFault>
-    requires unread { IsUnread (reading_of input.old.reads input.old.came input.old.has_failed) }
-    ensures input { input.new.reader.ghost_name ≡ input.old.reader.ghost_name }
-    ensures output { output.new.writer.ghost_name ≡ output.old.writer.ghost_name }
+    requires fresh { IsFresh console.old }
+    ensures same { SameStreams console.old console.new }
+    ensures silent { console.new.outputs.faults ≡ console.old.outputs.faults }
     ensures ran { RanToolOn tool (option_copied name.entry)
-        (outside_at R.remaining input.old W.contents output.old H.state host.old)
-        (outside_at R.remaining input.new W.contents output.new H.state host.new) result }
+        (outside_at R.remaining W.contents F.contents console.old (H.state host.old))
+        (outside_at R.remaining W.contents F.contents console.new (H.state host.new)) result }
     ensures line { IfErr result HasSmallLine }
-    ensures reads { option_copied name.entry ≡ None → ReadsWith result (reading_of input.new.reads input.new.came input.new.has_failed) }
-    ensures writes { WritesWith result output.old.has_failed output.new.has_failed }
-    ensures delivered { OnOk result (output.new.is_delivered ≡ true) }
+    ensures reads { option_copied name.entry ≡ None → ReadsWith result (reading_of console.new.input.reads console.new.input.came console.new.input.has_failed) }
+    ensures writes { WritesWith result console.old.outputs.output.has_failed console.new.outputs.output.has_failed }
+    ensures delivered { OnOk result (console.new.outputs.output.is_delivered ≡ true) }
 {
-    write_result(alloc, tool, name, input, output, host)?;
-    match output.flush() {
+    write_result(alloc, tool, name, console, host)?;
+    match console.outputs.output.flush() {
         Ok(()) => Ok(()),
         Err(_) => Err(ToolFault::Write),
     }
 }
 
 /// Writes what the tool makes of the file that the host has under this name, or of the input.
-fn write_result<R: Read, W: Write, H: Host>(
+fn write_result<R: Read, W: Write, F: Write, H: Host>(
     alloc: Global,
     tool: Tool,
     name: Option<&str>,
-    input: &mut InputStream<'_, R>,
-    output: &mut OutputStream<'_, W>,
+    console: &mut Console<'_, R, W, F>,
     host: &mut H,
 ) -> Result<(), ToolFault>
-    requires unread { IsUnread (reading_of input.old.reads input.old.came input.old.has_failed) }
-    ensures input { input.new.reader.ghost_name ≡ input.old.reader.ghost_name }
-    ensures output { output.new.writer.ghost_name ≡ output.old.writer.ghost_name }
+    requires fresh { IsFresh console.old }
+    ensures same { SameStreams console.old console.new }
+    ensures silent { console.new.outputs.faults ≡ console.old.outputs.faults }
     ensures ran { RanToolOn tool (option_copied name.entry)
-        (outside_at R.remaining input.old W.contents output.old H.state host.old)
-        (outside_at R.remaining input.new W.contents output.new H.state host.new) result }
+        (outside_at R.remaining W.contents F.contents console.old (H.state host.old))
+        (outside_at R.remaining W.contents F.contents console.new (H.state host.new)) result }
     ensures line { IfErr result HasSmallLine }
-    ensures reads { option_copied name.entry ≡ None → ReadsWith result (reading_of input.new.reads input.new.came input.new.has_failed) }
-    ensures writes { WritesWith result output.old.has_failed output.new.has_failed }
+    ensures reads { option_copied name.entry ≡ None → ReadsWith result (reading_of console.new.input.reads console.new.input.came console.new.input.has_failed) }
+    ensures writes { WritesWith result console.old.outputs.output.has_failed console.new.outputs.output.has_failed }
 {
     let Some(name) = name else {
-        return tool.run(alloc, input, output);
+        return tool.run(alloc, &mut console.input, &mut console.outputs.output);
     };
     match fetch_file(alloc, host, name) {
-        Ok(bytes) => tool.write(alloc, &bytes, output),
+        Ok(bytes) => tool.write(alloc, &bytes, &mut console.outputs.output),
         Err(HostFault::Memory(error)) => Err(ToolFault::Memory(error)),
         Err(HostFault::Missing | HostFault::Device | HostFault::TooLong) => Err(ToolFault::Read),
     }

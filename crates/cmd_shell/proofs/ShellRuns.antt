@@ -1,14 +1,16 @@
 -- Runs of the job of the shell.
-use Rattle.std.proofs.Common.{◌≡◌, ℕ, List, [], ◌++◌, take, Bor, Option, None, Some, Result, Ok, Err, true, inl, inr, refl, sym, subst, option_copied, unwrap_or}
+use Rattle.std.proofs.Common.{◌≡◌, ℕ, List, [], ◌++◌, take, Bor, Option, None, Some, Result, Ok, Err, true, inl, inr, refl, sym, ap, subst, option_copied, unwrap_or}
 use Rattle.std.specs.Io.KnownBytes.{Keeps}
 use Rattle.std.proofs.KnownBytes.{Appends-kept}
 use Rattle.script_text.specs.RawLines.{lines_of, ended_lines}
+use Rattle.script_text.specs.Input.{Reading}
+use Rattle.script_text.specs.Output.{Account}
 use Rattle.script_text.specs.Script.{script_limit}
 use Rattle.host_storage.specs.Files.{HostState}
 use Rattle.d64_undo.specs.History.{History}
 use Rattle.cmd_shell.specs.Beginnings.{Beginning, Blank, ImageFile, SessionFile, Source, Input, Given, home_of}
-use Rattle.cmd_shell.specs.ShellRuns.{GivesNoImage, GivesNoSession, HasNoHistory, IsDue, IsFirstHistory, IsReadDue, RanFrom, RanShell, IsReportedAs}
-use Rattle.program_exit.specs.Outside.{Outside}
+use Rattle.cmd_shell.specs.ShellRuns.{GivesNoImage, GivesNoSession, HasNoHistory, HasNoText, IsDue, IsFirstHistory, IsReadDue, RanFrom, RanShell, IsReportedAs, StoppedBy}
+use Rattle.program_console.specs.Outside.{Outside, outside_of}
 use Rattle.program_exit.specs.Faults.{fault_of_file, fault_of_resume, fault_of_run}
 use Rattle.program_exit.specs.declared.program_fault.ProgramFault.{ProgramFault}
 use Rattle.program_exit.specs.declared.program_fault.ProgramFault.TheVariants as faults
@@ -160,3 +162,38 @@ run_due (Memory error) source new reads writes = tt
 pub reported_run_due : (reported : ProgramFault) (fault : ShellFault) (source : Source) (new : Outside) → reported ≡ fault_of_run fault
     → (fault ≡ Read → IsReadDue source new.reading) → (fault ≡ Write → new.output.has_failed ≡ true) → IsDue reported source new
 reported_run_due reported fault source new is reads writes = due_by reported _ source new is (run_due fault source new reads writes)
+
+-- what stopped a script has stopped it also after the fault was reported
+no_text_reported : (fault : ProgramFault) (source : Source) (old : Outside) (reader : Option (List ℕ)) (reading : Reading) (output before after : Account) (host : HostState)
+    → HasNoText fault source old (outside_of reader reading output before host) → HasNoText fault source old (outside_of reader reading output after host)
+no_text_reported fault Input old reader reading output before after host none = none
+no_text_reported fault (Given text) old reader reading output before after host none = (none.0, ap (λ (o : Outside). record o { error = after }) none.1)
+
+ran_reported : (beginning : Beginning) (source : Source) (options : RunOptions) (old : Outside) (reader : Option (List ℕ)) (reading : Reading) (output before after : Account) (host : HostState) (ended : Result Outcome ShellFault)
+    → RanShell beginning source options old (outside_of reader reading output before host) ended → RanShell beginning source options old (outside_of reader reading output after host) ended
+ran_reported beginning source options old reader reading output before after host ended ran = record {
+  first = ran.first;
+  host = ran.host;
+  begins = ran.begins;
+  last = ran.last;
+  ran = ran.ran;
+}
+
+pub stopped_reported : (fault : ProgramFault) (beginning : Beginning) (source : Source) (options : RunOptions) (old : Outside) (reader : Option (List ℕ)) (reading : Reading) (output before after : Account) (host : HostState)
+    → StoppedBy fault beginning source options old (outside_of reader reading output before host) → StoppedBy fault beginning source options old (outside_of reader reading output after host)
+stopped_reported fault beginning source options old reader reading output before after host (inl none) = inl (no_text_reported fault source old reader reading output before after host none)
+stopped_reported fault beginning source options old reader reading output before after host (inr (inl none)) = inr (inl none)
+stopped_reported fault beginning source options old reader reading output before after host (inr (inr (ended, ran, is))) =
+    inr (inr (ended, ran_reported beginning source options old reader reading output before after host ended ran, is))
+
+-- and it is due also then
+pub due_reported : (fault : ProgramFault) (source : Source) (reader : Option (List ℕ)) (reading : Reading) (output before after : Account) (host : HostState)
+    → IsDue fault source (outside_of reader reading output before host) → IsDue fault source (outside_of reader reading output after host)
+due_reported faults.Read source reader reading output before after host due = due
+due_reported faults.Write source reader reading output before after host due = due
+due_reported faults.Memory source reader reading output before after host due = tt
+due_reported faults.UnreadableWords source reader reading output before after host due = tt
+due_reported (faults.WrongLength length) source reader reading output before after host due = tt
+due_reported faults.UnreadableImage source reader reading output before after host due = tt
+due_reported faults.UnreadableSession source reader reading output before after host due = tt
+due_reported (faults.NoSession number) source reader reading output before after host due = tt

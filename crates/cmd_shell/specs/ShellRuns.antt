@@ -2,7 +2,6 @@
 use Rattle.std.specs.Prelude.{◌≡◌, ℕ, ◌<◌, ◌==◌, true, false, if◌then◌else◌, List, [], length, replicate, Option, Some, Result, Ok, Err, ◌⊎◌, ⊤}
 use Rattle.std.specs.Io.KnownBytes.{Keeps}
 use Rattle.script_text.specs.Input.{Reading, IsUnreadable}
-use Rattle.script_text.specs.Output.{Account}
 use Rattle.script_text.specs.Script.{script_limit}
 use Rattle.host_storage.specs.Files.{HostState}
 use Rattle.host_storage.specs.declared.host.HostFault.{HostFault}
@@ -19,7 +18,7 @@ use Rattle.script_run.specs.declared.runner.Outcome.{Outcome}
 use Rattle.script_run.specs.declared.runner.ShellFault.{ShellFault}
 use Rattle.program_exit.specs.declared.program_fault.ProgramFault.{ProgramFault}
 use Rattle.program_exit.specs.declared.program_fault.ProgramFault.TheVariants.{WrongLength, UnreadableImage, UnreadableSession, Read, Write, Memory}
-use Rattle.program_exit.specs.Outside.{Outside}
+use Rattle.program_console.specs.Outside.{Outside}
 use Rattle.program_exit.specs.Faults.{fault_of_file, fault_of_resume, fault_of_run, Reports}
 use Rattle.cmd_shell.specs.Beginnings.{Beginning, Blank, ImageFile, SessionFile, Source, Input, Given}
 use Rattle.program_batch.specs.Runs.{file_limit}
@@ -86,10 +85,11 @@ HasNoHistory reported old (SessionFile name) new = (fetched : Result (List ℕ) 
 abbrev pub HasNotBegunFor : ProgramFault → Beginning → Outside → Outside → Type 0
 HasNotBegunFor fault beginning old new = HasNoHistory fault old.host beginning new.host × HasNotBegun old new
 
--- no line has run, since memory ran out for the text that the arguments give
+-- no line has run, since memory ran out for the text that the arguments give: nothing outside has
+-- changed, except that the fault may be reported
 abbrev pub HasNoText : ProgramFault → Source → Outside → Outside → Type 0
 HasNoText fault Input old new = ⊥
-HasNoText fault (Given text) old new = (fault ≡ Memory) × (new ≡ old)
+HasNoText fault (Given text) old new = (fault ≡ Memory) × (new ≡ record old { error = new.error })
 
 -- why a run that ended with this result is reported as this fault: the fault stopped it, or the
 -- output takes no more bytes
@@ -117,7 +117,7 @@ IsDue Write source new = new.output.has_failed ≡ true
 IsDue other source new = ⊤
 
 -- how the shell ended: the script ran to its end, and no fault is reported; or a fault stopped it
-abbrev pub EndedShell : Beginning → Source → RunOptions → Outside → Outside → Account → Account → ℕ → Type 0
-EndedShell beginning source options old new faults reported status =
-    ((outcome : Outcome) × RanShell beginning source options old new (Ok outcome) × (status ≡ status_of outcome) × (reported ≡ faults))
-    ⊎ ((fault : ProgramFault) × StoppedBy fault beginning source options old new × IsDue fault source new × Reports fault faults reported status)
+abbrev pub EndedShell : Beginning → Source → RunOptions → Outside → Outside → ℕ → Type 0
+EndedShell beginning source options old new status =
+    ((outcome : Outcome) × RanShell beginning source options old new (Ok outcome) × (status ≡ status_of outcome) × (new.error ≡ old.error))
+    ⊎ ((fault : ProgramFault) × StoppedBy fault beginning source options old new × IsDue fault source new × Reports fault old.error new.error status)

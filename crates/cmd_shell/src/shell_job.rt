@@ -3,22 +3,22 @@ ghost use Rattle.std.specs.Prelude.{◌≡◌, ℕ, List, Result, Ok, Err, None,
 ghost use Rattle.host_storage.specs.declared.host.HostFault.{HostFault};
 ghost use Rattle.d64_image.specs.Image.{IsImage, bytes_of};
 ghost use Rattle.d64_undo.specs.SessionFile.{IsSession, file_of};
-ghost use Rattle.script_text.specs.Input.{IsUnread, reading_of};
+ghost use Rattle.script_text.specs.Input.{reading_of};
 ghost use Rattle.script_commands.specs.Act.{FetchesFile, world_of};
 ghost use Rattle.script_run.specs.Runner.{options_of, script_state};
 ghost use Rattle.cmd_shell.specs.Beginnings.{Given, beginning_of, refusals_of, source_by, source_of, text_of_lines};
 ghost use Rattle.cmd_shell.specs.Scripts.{beginning_in, options_in, source_in};
 ghost use Rattle.cmd_shell.specs.ShellRuns.{IsDue, IsFirstHistory, IsReadDue, HasNoHistory, GivesNoImage, GivesNoSession, RanFrom, RanShell, StoppedBy, blank_image, session_limit, status_of};
 ghost use Rattle.program_batch.specs.Runs.{file_limit};
-ghost use Rattle.program_exit.specs.Outside.{outside_at};
+ghost use Rattle.program_console.specs.Console.{IsDelivered, IsFresh, SameStreams};
+ghost use Rattle.program_console.specs.Outside.{outside_at};
 
 use d64_image::{BLOCKS, Image, ImageFault, blocks_of};
 use d64_undo::{ReadFault, Session, resume_from};
 use host_storage::{Host, HostFault};
+use program_console::Console;
 use program_exit::{ALL_ACCEPTED, ProgramFault, SOME_REFUSED, fetch_file};
 use script_run::{Observer, Opening, Outcome, Refusals, RunOptions, ScriptRunner, ShellFault};
-use script_text::input::InputStream;
-use script_text::output::OutputStream;
 use std::alloc::{AllocError, Global};
 use std::io::{Read, Write};
 
@@ -43,28 +43,25 @@ impl<'n> ShellJob<'n> {
     /// Runs the script on its session, and then flushes the output. If the arguments give the
     /// script, nothing of the input is read. The run is the same with every observer, which follows
     /// the session's begin and end, too.
-    pub fn run<R: Read, W: Write, H: Host, L: Observer>(
+    pub fn run<R: Read, W: Write, F: Write, H: Host, L: Observer>(
         self,
         alloc: Global,
-        input: &mut InputStream<'_, R>,
-        output: &mut OutputStream<'_, W>,
+        console: &mut Console<'_, R, W, F>,
         host: &mut H,
         observer: &mut L,
     ) -> Result<Outcome, ProgramFault>
-        requires unread { IsUnread (reading_of input.old.reads input.old.came input.old.has_failed) }
-        requires unfailed { output.old.has_failed ≡ false }
-        requires delivered { output.old.is_delivered ≡ true }
-        ensures input { input.new.reader.ghost_name ≡ input.old.reader.ghost_name }
-        ensures output { output.new.writer.ghost_name ≡ output.old.writer.ghost_name }
-        ensures delivered { OnOk result ((output.new.is_delivered ≡ true) × (output.new.has_failed ≡ false)) }
+        requires fresh { IsFresh console.old }
+        ensures same { SameStreams console.old console.new }
+        ensures silent { console.new.outputs.faults ≡ console.old.outputs.faults }
+        ensures delivered { OnOk result (IsDelivered console.new.outputs.output) }
         ensures ran { IfOk result (λ outcome. RanShell (beginning_in self.entry) (source_in self.entry) (options_in self.entry)
-            (outside_at R.remaining input.old W.contents output.old H.state host.old)
-            (outside_at R.remaining input.new W.contents output.new H.state host.new) (Ok outcome)) }
+            (outside_at R.remaining W.contents F.contents console.old (H.state host.old))
+            (outside_at R.remaining W.contents F.contents console.new (H.state host.new)) (Ok outcome)) }
         ensures stopped { IfErr result (λ fault. StoppedBy fault (beginning_in self.entry) (source_in self.entry) (options_in self.entry)
-            (outside_at R.remaining input.old W.contents output.old H.state host.old)
-            (outside_at R.remaining input.new W.contents output.new H.state host.new)) }
+            (outside_at R.remaining W.contents F.contents console.old (H.state host.old))
+            (outside_at R.remaining W.contents F.contents console.new (H.state host.new))) }
         ensures due { IfErr result (λ fault. IsDue fault (source_in self.entry)
-            (outside_at R.remaining input.new W.contents output.new H.state host.new)) }
+            (outside_at R.remaining W.contents F.contents console.new (H.state host.new))) }
     {
         let text = given_text(alloc, self.lines)?;
         let mut session = first_session(
@@ -84,9 +81,9 @@ impl<'n> ShellJob<'n> {
                 refusals: self.refusals,
             },
         };
-        let ran = script.run(input, output, host, &mut session, observer);
+        let ran = script.run(console, host, &mut session, observer);
         observer.end(self.image.unwrap_or(""), &session);
-        match output.flush() {
+        match console.outputs.output.flush() {
             Ok(()) => Ok(ran?),
             Err(_) => Err(ProgramFault::Write),
         }
@@ -139,26 +136,23 @@ struct GivenScript<'n> {
 
 impl<'n> GivenScript<'n> {
     /// Runs the script on a session. If it has a text, nothing of the input is read.
-    fn run<R: Read, W: Write, H: Host, L: Observer>(
+    fn run<R: Read, W: Write, F: Write, H: Host, L: Observer>(
         self,
-        input: &mut InputStream<'_, R>,
-        output: &mut OutputStream<'_, W>,
+        console: &mut Console<'_, R, W, F>,
         host: &mut H,
         session: &mut Session,
         observer: &mut L,
     ) -> Result<Outcome, ShellFault>
-        requires unread { IsUnread (reading_of input.old.reads input.old.came input.old.has_failed) }
-        requires unfailed { output.old.has_failed ≡ false }
-        requires delivered { output.old.is_delivered ≡ true }
-        ensures input { input.new.reader.ghost_name ≡ input.old.reader.ghost_name }
-        ensures output { output.new.writer.ghost_name ≡ output.old.writer.ghost_name }
-        ensures ran { RanFrom (source_by (option_copied self.entry.text)) (options_of self.entry.options) (R.remaining input.old.reader.now) (R.remaining input.new.reader.now)
-            (script_state (W.contents output.old.writer.now) (world_of (H.state host.old) session.old))
-            (script_state (W.contents output.new.writer.now) (world_of (H.state host.new) session.new))
+        requires fresh { IsFresh console.old }
+        ensures same { SameStreams console.old console.new }
+        ensures silent { console.new.outputs.faults ≡ console.old.outputs.faults }
+        ensures ran { RanFrom (source_by (option_copied self.entry.text)) (options_of self.entry.options) (R.remaining console.old.input.reader.now) (R.remaining console.new.input.reader.now)
+            (script_state (W.contents console.old.outputs.output.writer.now) (world_of (H.state host.old) session.old))
+            (script_state (W.contents console.new.outputs.output.writer.now) (world_of (H.state host.new) session.new))
             result }
-        ensures unfailed { OnOk result (output.new.has_failed ≡ false) }
-        ensures due { result ≡ Err ShellFault.Read → IsReadDue (source_by (option_copied self.entry.text)) (reading_of input.new.reads input.new.came input.new.has_failed) }
-        ensures failed { result ≡ Err ShellFault.Write → output.new.has_failed ≡ true }
+        ensures unfailed { OnOk result (console.new.outputs.output.has_failed ≡ false) }
+        ensures due { result ≡ Err ShellFault.Read → IsReadDue (source_by (option_copied self.entry.text)) (reading_of console.new.input.reads console.new.input.came console.new.input.has_failed) }
+        ensures failed { result ≡ Err ShellFault.Write → console.new.outputs.output.has_failed ≡ true }
     {
         let runner = ScriptRunner {
             alloc: self.alloc,
@@ -166,9 +160,14 @@ impl<'n> GivenScript<'n> {
             observer,
         };
         let Some(text) = self.text else {
-            return runner.run(input, output, host, session);
+            return runner.run(
+                &mut console.input,
+                &mut console.outputs.output,
+                host,
+                session,
+            );
         };
-        runner.run_text(text, output, host, session)
+        runner.run_text(text, &mut console.outputs.output, host, session)
     }
 }
 

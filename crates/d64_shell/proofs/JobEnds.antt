@@ -12,36 +12,42 @@ use Rattle.script_run.specs.Transcript.{RunOptions}
 use Rattle.cmd_shell.specs.Beginnings.{Beginning, Source}
 use Rattle.d64_shell.specs.Jobs.{JobWork, Script, Survey, Extraction, PassesOver, work_of}
 use Rattle.program_surveys.specs.SurveyFiles.{SurveyFiles}
-use Rattle.program_exit.specs.Outside.{Outside}
+use Rattle.program_console.specs.Outside.{Outside}
+use Rattle.program_exit.specs.Faults.{Reports}
+use Rattle.program_exit.specs.declared.program_fault.ProgramFault.{ProgramFault}
 use Rattle.cmd_shell.specs.ShellRuns.{EndedShell}
 use Rattle.program_surveys.specs.JobEnds.{EndedSurvey}
 use Rattle.d64_shell.specs.Program.{EndedWork}
 
 -- a job whose work is a survey has ended as that has
-pub survey_ended : (job : Job) (rule : Rule) (heading : List ℕ) (files shown : SurveyFiles) (old new : Outside) (faults reported : Account) (status : ℕ)
-    → work_of job ≡ Survey rule heading files → shown ≡ files → EndedSurvey (by_rule rule) heading shown old new faults reported status
-    → EndedWork (work_of job) old new faults reported status
-survey_ended job rule heading files shown old new faults reported status is same ended =
-    subst (λ (work : JobWork). EndedWork work old new faults reported status) (sym is)
-    (subst (λ (f : SurveyFiles). EndedSurvey (by_rule rule) heading f old new faults reported status) same ended)
+pub survey_ended : (job : Job) (rule : Rule) (heading : List ℕ) (files shown : SurveyFiles) (old new : Outside) (status : ℕ)
+    → work_of job ≡ Survey rule heading files → shown ≡ files → EndedSurvey (by_rule rule) heading shown old new status
+    → EndedWork (work_of job) old new status
+survey_ended job rule heading files shown old new status is same ended =
+    subst (λ (work : JobWork). EndedWork work old new status) (sym is)
+    (subst (λ (f : SurveyFiles). EndedSurvey (by_rule rule) heading f old new status) same ended)
 
 -- a job whose work is a script has ended as that has
-pub script_ended : (job : Job) (beginning begun : Beginning) (source from : Source) (options at : RunOptions) (old new : Outside) (faults reported : Account) (status : ℕ)
-    → work_of job ≡ Script beginning source options → begun ≡ beginning → from ≡ source → at ≡ options → EndedShell begun from at old new faults reported status
-    → EndedWork (work_of job) old new faults reported status
-script_ended job beginning begun source from options at old new faults reported status is same_beginning same_source same_options ended =
-    subst (λ (work : JobWork). EndedWork work old new faults reported status) (sym is)
-    (subst (λ (m : RunOptions). EndedShell beginning source m old new faults reported status) same_options
-    (subst (λ (s : Source). EndedShell beginning s at old new faults reported status) same_source
-    (subst (λ (b : Beginning). EndedShell b from at old new faults reported status) same_beginning ended)))
+pub script_ended : (job : Job) (beginning begun : Beginning) (source from : Source) (options at : RunOptions) (old new : Outside) (status : ℕ)
+    → work_of job ≡ Script beginning source options → begun ≡ beginning → from ≡ source → at ≡ options → EndedShell begun from at old new status
+    → EndedWork (work_of job) old new status
+script_ended job beginning begun source from options at old new status is same_beginning same_source same_options ended =
+    subst (λ (work : JobWork). EndedWork work old new status) (sym is)
+    (subst (λ (m : RunOptions). EndedShell beginning source m old new status) same_options
+    (subst (λ (s : Source). EndedShell beginning s at old new status) same_source
+    (subst (λ (b : Beginning). EndedShell b from at old new status) same_beginning ended)))
 
 -- a job whose work is an extraction has ended as that has
-pub extraction_ended : (job : Job) (setup : SetupView) (heading : List ℕ) (files shown : SurveyFiles) (old new : Outside) (faults reported : Account) (status : ℕ)
-    → work_of job ≡ Extraction setup heading files → shown ≡ files → EndedSurvey (unpacks setup) heading shown old new faults reported status
-    → EndedWork (work_of job) old new faults reported status
-extraction_ended job setup heading files shown old new faults reported status is same ended =
-    subst (λ (work : JobWork). EndedWork work old new faults reported status) (sym is)
-    (subst (λ (f : SurveyFiles). EndedSurvey (unpacks setup) heading f old new faults reported status) same ended)
+pub extraction_ended : (job : Job) (setup : SetupView) (heading : List ℕ) (files shown : SurveyFiles) (old new : Outside) (status : ℕ)
+    → work_of job ≡ Extraction setup heading files → shown ≡ files → EndedSurvey (unpacks setup) heading shown old new status
+    → EndedWork (work_of job) old new status
+extraction_ended job setup heading files shown old new status is same ended =
+    subst (λ (work : JobWork). EndedWork work old new status) (sym is)
+    (subst (λ (f : SurveyFiles). EndedSurvey (unpacks setup) heading f old new status) same ended)
+
+-- the line of a fault is written to what the standard error was before, if it is the same then
+pub reports_after : (fault : ProgramFault) (error same reported : Account) (status : ℕ) → same ≡ error → Reports fault same reported status → Reports fault error reported status
+reports_after fault error same reported status is reports = subst (λ (a : Account). Reports fault a reported status) is reports
 
 -- an extraction that skips nothing
 not_true : (test : Bool) → (test ≡ true → ⊥) → test ≡ false

@@ -1,6 +1,5 @@
 -- What the program does with its arguments, its streams and a host.
 use Rattle.std.specs.Prelude.{◌≡◌, ℕ, List, ◌∷◌, map, codes, ◌⊎◌, ⊤}
-use Rattle.script_text.specs.Output.{Account}
 use Rattle.host_names.specs.Shown.{shown_name}
 use Rattle.program_arguments.specs.Requested.{IsFault, IsJob, IsHelpOrVersion}
 use Rattle.program_arguments.specs.declared.jobs.Job.{Job}
@@ -8,7 +7,7 @@ use Rattle.program_arguments.specs.declared.jobs.JobFault.{JobFault}
 use Rattle.program_arguments.specs.declared.jobs.JobFault.TheVariants.{Words}
 use Rattle.program_batch.specs.Answers.{by_rule}
 use Rattle.cmd_extract.specs.Effects.{unpacks}
-use Rattle.program_exit.specs.Outside.{Outside}
+use Rattle.program_console.specs.Outside.{Outside}
 use Rattle.program_exit.specs.WordFaults.{ReportsNoJob}
 use Rattle.cmd_basic.specs.ToolRuns.{EndedConversion}
 use Rattle.program_surveys.specs.JobEnds.{EndedSurvey, EndedComparison}
@@ -17,13 +16,13 @@ use Rattle.cmd_shell.specs.ShellRuns.{EndedShell}
 use Rattle.d64_shell.specs.Jobs.{JobWork, Script, Conversion, Survey, Extraction, Comparison, Merging, work_of, IsScript, PassesOver}
 
 -- how a job with this work ended
-abbrev pub EndedWork : JobWork → Outside → Outside → Account → Account → ℕ → Type 0
-EndedWork (Script beginning source options) old new faults reported status = EndedShell beginning source options old new faults reported status
-EndedWork (Conversion tool name target) old new faults reported status = EndedConversion tool name target old new faults reported status
-EndedWork (Survey rule heading files) old new faults reported status = EndedSurvey (by_rule rule) heading files old new faults reported status
-EndedWork (Extraction setup heading files) old new faults reported status = EndedSurvey (unpacks setup) heading files old new faults reported status
-EndedWork (Comparison rule old_name new_name) old new faults reported status = EndedComparison rule old_name new_name old new faults reported status
-EndedWork (Merging setup) old new faults reported status = EndedMerge setup old new faults reported status
+abbrev pub EndedWork : JobWork → Outside → Outside → ℕ → Type 0
+EndedWork (Script beginning source options) old new status = EndedShell beginning source options old new status
+EndedWork (Conversion tool name target) old new status = EndedConversion tool name target old new status
+EndedWork (Survey rule heading files) old new status = EndedSurvey (by_rule rule) heading files old new status
+EndedWork (Extraction setup heading files) old new status = EndedSurvey (unpacks setup) heading files old new status
+EndedWork (Comparison rule old_name new_name) old new status = EndedComparison rule old_name new_name old new status
+EndedWork (Merging setup) old new status = EndedMerge setup old new status
 
 -- the arguments with the program's name before them
 abbrev pub named_words : List (List ℕ) → List (List ℕ)
@@ -50,7 +49,7 @@ AsksToPassOver after = (job : Job) × IsJob (named_words after) job × PassesOve
 -- what the program has done, and its status: the job that the arguments ask for has ended; or they
 -- ask for none, which is reported, with nothing read and no file touched; an error of clap's is
 -- then one of the arguments as they are shown
-abbrev pub Ended : List (List ℕ) → Outside → Outside → Account → Account → ℕ → Type 0
-Ended after old new faults reported status =
-    ((job : Job) × IsJob (named_words after) job × EndedWork (work_of job) old new faults reported status)
-    ⊎ ((fault : JobFault) × IsFault (named_words after) fault × IsErrorOf (named_words (shown_words after)) fault × (new.reader ≡ old.reader) × (new.host ≡ old.host) × ReportsNoJob fault old.output new.output faults reported status)
+abbrev pub Ended : List (List ℕ) → Outside → Outside → ℕ → Type 0
+Ended after old new status =
+    ((job : Job) × IsJob (named_words after) job × EndedWork (work_of job) old new status)
+    ⊎ ((fault : JobFault) × IsFault (named_words after) fault × IsErrorOf (named_words (shown_words after)) fault × (new.reader ≡ old.reader) × (new.host ≡ old.host) × ReportsNoJob fault old.output new.output old.error new.error status)

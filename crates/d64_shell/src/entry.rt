@@ -1,11 +1,11 @@
 //! The program `d64sh`, from its arguments to its exit status.
-ghost use Rattle.std.specs.Prelude.{◌≡◌, ◌≢◌, ◌≤◌, Bool, false, map, option_copied, true};
-ghost use Rattle.script_text.specs.Input.{IsUnread, Reading, reading_of};
+ghost use Rattle.std.specs.Prelude.{◌≡◌, ◌≢◌, ◌≤◌, Bool, false, map, option_copied};
+ghost use Rattle.script_text.specs.Input.{Reading, reading_of};
 ghost use Rattle.script_text.specs.Output.{account_of};
-ghost use Rattle.program_batch.specs.Runs.{account_at};
+ghost use Rattle.program_console.specs.Console.{IsDelivered, IsFresh, SameStreams};
 ghost use Rattle.d64_shell.specs.Jobs.{IsScript, PassesOver, work_of};
 ghost use Rattle.d64_shell.specs.Program.{AsksForShell, AsksToPassOver, Ended, EndedWork};
-ghost use Rattle.program_exit.specs.Outside.{outside_at, outside_of};
+ghost use Rattle.program_console.specs.Outside.{outside_at, outside_of};
 ghost use Rattle.cmd_basic.specs.ToolRuns.{EndedConversion};
 
 use crate::asking::requested_job;
@@ -20,6 +20,7 @@ use cmd_map::MapPrinter;
 use cmd_shell::{ShellJob, exit_status, refusals_of};
 use host_storage::{Host, HostFault};
 use program_arguments::Job;
+use program_console::Console;
 use program_exit::{NOT_RUN, report_no_job};
 use program_reports::SurveyReport;
 use program_surveys::{DifferenceJob, FileNames, MergeJob, SurveyJob};
@@ -52,51 +53,45 @@ pub fn program<R: Read, W: Write, F: Write, H: Host>(
 ) -> u8
     ensures status { result ≤ 2 }
     ensures ended { (reading : Reading) × (output_failed : Bool) × (faults_failed : Bool) × Ended (map (λ word. word.now) words.now)
-        (outside_of (R.remaining reader.old) (reading_of 0 0 false) (account_of (W.contents writer.old) false) (H.state host.old))
-        (outside_of (R.remaining reader.new) reading (account_of (W.contents writer.new) output_failed) (H.state host.new))
-        (account_of (F.contents faults.old) false) (account_of (F.contents faults.new) faults_failed) result }
+        (outside_of (R.remaining reader.old) (reading_of 0 0 false) (account_of (W.contents writer.old) false) (account_of (F.contents faults.old) false) (H.state host.old))
+        (outside_of (R.remaining reader.new) reading (account_of (W.contents writer.new) output_failed) (account_of (F.contents faults.new) faults_failed) (H.state host.new)) result }
     ensures silent { (AsksToPassOver (map (λ word. word.now) words.now) → ⊥) → result ≡ 0 → faults.new ≡ faults.old }
     ensures script { AsksForShell (map (λ word. word.now) words.now) → result ≢ 2 → faults.new ≡ faults.old }
 {
-    let mut input = InputStream::new(reader);
-    let mut output = OutputStream::new(writer);
-    let mut reported = OutputStream::new(faults);
-    program_on(alloc, words, &mut input, &mut output, &mut reported, host)
+    let mut console = Console::new(
+        InputStream::new(reader),
+        OutputStream::new(writer),
+        OutputStream::new(faults),
+    );
+    program_on(alloc, words, &mut console, host)
 }
 
-/// Does what the arguments ask for on an input of which nothing was read yet and on an output that
+/// Does what the arguments ask for on a console from which nothing was read yet and whose output
 /// has not failed, and returns the exit status. Status 0 is returned only if all that was printed
 /// was delivered, and the line of a fault, a tool's status line and what is wrong with the
 /// arguments are written whole unless writing them fails.
 pub fn program_on<R: Read, W: Write, F: Write, H: Host>(
     alloc: Global,
     words: &[&str],
-    input: &mut InputStream<'_, R>,
-    output: &mut OutputStream<'_, W>,
-    faults: &mut OutputStream<'_, F>,
+    console: &mut Console<'_, R, W, F>,
     host: &mut H,
 ) -> u8
-    requires unread { IsUnread (reading_of input.old.reads input.old.came input.old.has_failed) }
-    requires unfailed { output.old.has_failed ≡ false }
-    requires delivered { output.old.is_delivered ≡ true }
-    ensures input { input.new.reader.ghost_name ≡ input.old.reader.ghost_name }
-    ensures output { output.new.writer.ghost_name ≡ output.old.writer.ghost_name }
-    ensures faults { faults.new.writer.ghost_name ≡ faults.old.writer.ghost_name }
+    requires fresh { IsFresh console.old }
+    ensures same { SameStreams console.old console.new }
     ensures status { result ≤ 2 }
-    ensures delivered { result ≡ 0 → (output.new.is_delivered ≡ true) × (output.new.has_failed ≡ false) }
+    ensures delivered { result ≡ 0 → IsDelivered console.new.outputs.output }
     ensures ended { Ended (map (λ word. word.now) words.now)
-        (outside_at R.remaining input.old W.contents output.old H.state host.old)
-        (outside_at R.remaining input.new W.contents output.new H.state host.new)
-        (account_at F.contents faults.old) (account_at F.contents faults.new) result }
-    ensures silent { (AsksToPassOver (map (λ word. word.now) words.now) → ⊥) → result ≡ 0 → faults.new ≡ faults.old }
-    ensures script { AsksForShell (map (λ word. word.now) words.now) → result ≢ 2 → faults.new ≡ faults.old }
+        (outside_at R.remaining W.contents F.contents console.old (H.state host.old))
+        (outside_at R.remaining W.contents F.contents console.new (H.state host.new)) result }
+    ensures silent { (AsksToPassOver (map (λ word. word.now) words.now) → ⊥) → result ≡ 0 → console.new.outputs.faults ≡ console.old.outputs.faults }
+    ensures script { AsksForShell (map (λ word. word.now) words.now) → result ≢ 2 → console.new.outputs.faults ≡ console.old.outputs.faults }
 {
     let mut nobody = Nobody;
     let program = ObservedProgram {
         alloc,
         observer: &mut nobody,
     };
-    program.run(words, input, output, faults, host)
+    program.run(words, console, host)
 }
 
 /// The program with memory, and an observer that follows the shell's output if the script is the
@@ -112,29 +107,22 @@ impl<'l, L: Observer> ObservedProgram<'l, L> {
     pub fn run<R: Read, W: Write, F: Write, H: Host>(
         self,
         words: &[&str],
-        input: &mut InputStream<'_, R>,
-        output: &mut OutputStream<'_, W>,
-        faults: &mut OutputStream<'_, F>,
+        console: &mut Console<'_, R, W, F>,
         host: &mut H,
     ) -> u8
-        requires unread { IsUnread (reading_of input.old.reads input.old.came input.old.has_failed) }
-        requires unfailed { output.old.has_failed ≡ false }
-        requires delivered { output.old.is_delivered ≡ true }
-        ensures input { input.new.reader.ghost_name ≡ input.old.reader.ghost_name }
-        ensures output { output.new.writer.ghost_name ≡ output.old.writer.ghost_name }
-        ensures faults { faults.new.writer.ghost_name ≡ faults.old.writer.ghost_name }
+        requires fresh { IsFresh console.old }
+        ensures same { SameStreams console.old console.new }
         ensures status { result ≤ 2 }
-        ensures delivered { result ≡ 0 → (output.new.is_delivered ≡ true) × (output.new.has_failed ≡ false) }
+        ensures delivered { result ≡ 0 → IsDelivered console.new.outputs.output }
         ensures ended { Ended (map (λ word. word.now) words.now)
-            (outside_at R.remaining input.old W.contents output.old H.state host.old)
-            (outside_at R.remaining input.new W.contents output.new H.state host.new)
-            (account_at F.contents faults.old) (account_at F.contents faults.new) result }
-        ensures silent { (AsksToPassOver (map (λ word. word.now) words.now) → ⊥) → result ≡ 0 → faults.new ≡ faults.old }
-        ensures script { AsksForShell (map (λ word. word.now) words.now) → result ≢ 2 → faults.new ≡ faults.old }
+            (outside_at R.remaining W.contents F.contents console.old (H.state host.old))
+            (outside_at R.remaining W.contents F.contents console.new (H.state host.new)) result }
+        ensures silent { (AsksToPassOver (map (λ word. word.now) words.now) → ⊥) → result ≡ 0 → console.new.outputs.faults ≡ console.old.outputs.faults }
+        ensures script { AsksForShell (map (λ word. word.now) words.now) → result ≢ 2 → console.new.outputs.faults ≡ console.old.outputs.faults }
     {
         match requested_job(self.alloc, words) {
-            Ok(job) => self.do_job(job, input, output, faults, host),
-            Err(fault) => report_no_job(self.alloc, fault, output, faults),
+            Ok(job) => self.do_job(job, console, host),
+            Err(fault) => report_no_job(self.alloc, fault, &mut console.outputs),
         }
     }
 
@@ -143,27 +131,20 @@ impl<'l, L: Observer> ObservedProgram<'l, L> {
     fn run_tool<R: Read, W: Write, F: Write, H: Host>(
         self,
         job: ToolJob<'_>,
-        input: &mut InputStream<'_, R>,
-        output: &mut OutputStream<'_, W>,
-        faults: &mut OutputStream<'_, F>,
+        console: &mut Console<'_, R, W, F>,
         host: &mut H,
     ) -> u8
-        requires unread { IsUnread (reading_of input.old.reads input.old.came input.old.has_failed) }
-        requires unfailed { output.old.has_failed ≡ false }
-        requires delivered { output.old.is_delivered ≡ true }
-        ensures input { input.new.reader.ghost_name ≡ input.old.reader.ghost_name }
-        ensures output { output.new.writer.ghost_name ≡ output.old.writer.ghost_name }
-        ensures faults { faults.new.writer.ghost_name ≡ faults.old.writer.ghost_name }
+        requires fresh { IsFresh console.old }
+        ensures same { SameStreams console.old console.new }
         ensures ended { EndedConversion job.entry.tool (option_copied job.entry.file) (option_copied job.entry.target)
-            (outside_at R.remaining input.old W.contents output.old H.state host.old)
-            (outside_at R.remaining input.new W.contents output.new H.state host.new)
-            (account_at F.contents faults.old) (account_at F.contents faults.new) result }
+            (outside_at R.remaining W.contents F.contents console.old (H.state host.old))
+            (outside_at R.remaining W.contents F.contents console.new (H.state host.new)) result }
         ensures status { result ≤ 2 }
-        ensures delivered { result ≡ 0 → (output.new.is_delivered ≡ true) × (output.new.has_failed ≡ false) }
-        ensures silent { result ≡ 0 → faults.new ≡ faults.old }
+        ensures delivered { result ≡ 0 → IsDelivered console.new.outputs.output }
+        ensures silent { result ≡ 0 → console.new.outputs.faults ≡ console.old.outputs.faults }
     {
         let ObservedProgram { alloc, observer } = self;
-        let status = job.run(alloc, input, output, faults, host);
+        let status = job.run(alloc, console, host);
         if status == NOT_RUN {
             if let Some(name) = job.file {
                 observer.miss(name, Err(HostFault::Device));
@@ -176,25 +157,18 @@ impl<'l, L: Observer> ObservedProgram<'l, L> {
     fn do_job<R: Read, W: Write, F: Write, H: Host>(
         self,
         job: Job,
-        input: &mut InputStream<'_, R>,
-        output: &mut OutputStream<'_, W>,
-        faults: &mut OutputStream<'_, F>,
+        console: &mut Console<'_, R, W, F>,
         host: &mut H,
     ) -> u8
-        requires unread { IsUnread (reading_of input.old.reads input.old.came input.old.has_failed) }
-        requires unfailed { output.old.has_failed ≡ false }
-        requires delivered { output.old.is_delivered ≡ true }
-        ensures input { input.new.reader.ghost_name ≡ input.old.reader.ghost_name }
-        ensures output { output.new.writer.ghost_name ≡ output.old.writer.ghost_name }
-        ensures faults { faults.new.writer.ghost_name ≡ faults.old.writer.ghost_name }
+        requires fresh { IsFresh console.old }
+        ensures same { SameStreams console.old console.new }
         ensures ended { EndedWork (work_of job)
-            (outside_at R.remaining input.old W.contents output.old H.state host.old)
-            (outside_at R.remaining input.new W.contents output.new H.state host.new)
-            (account_at F.contents faults.old) (account_at F.contents faults.new) result }
+            (outside_at R.remaining W.contents F.contents console.old (H.state host.old))
+            (outside_at R.remaining W.contents F.contents console.new (H.state host.new)) result }
         ensures status { result ≤ 2 }
-        ensures delivered { result ≡ 0 → (output.new.is_delivered ≡ true) × (output.new.has_failed ≡ false) }
-        ensures silent { (PassesOver (work_of job) → ⊥) → result ≡ 0 → faults.new ≡ faults.old }
-        ensures script { IsScript (work_of job) → result ≢ 2 → faults.new ≡ faults.old }
+        ensures delivered { result ≡ 0 → IsDelivered console.new.outputs.output }
+        ensures silent { (PassesOver (work_of job) → ⊥) → result ≡ 0 → console.new.outputs.faults ≡ console.old.outputs.faults }
+        ensures script { IsScript (work_of job) → result ≢ 2 → console.new.outputs.faults ≡ console.old.outputs.faults }
     {
         let alloc = self.alloc;
         match job {
@@ -212,9 +186,9 @@ impl<'l, L: Observer> ObservedProgram<'l, L> {
                     lines: lines.as_slice(),
                     refusals: refusals_of(stops_at_refusal),
                 };
-                match job.run(alloc, input, output, host, self.observer) {
+                match job.run(alloc, console, host, self.observer) {
                     Ok(outcome) => exit_status(outcome),
-                    Err(fault) => fault.report_on(faults),
+                    Err(fault) => fault.report_on(&mut console.outputs.faults),
                 }
             }
             Job::Petcat {
@@ -226,7 +200,7 @@ impl<'l, L: Observer> ObservedProgram<'l, L> {
                     file: file.as_deref(),
                     target: target.as_deref(),
                 };
-                self.run_tool(job, input, output, faults, host)
+                self.run_tool(job, console, host)
             }
             Job::Crunch {
                 start,
@@ -238,7 +212,7 @@ impl<'l, L: Observer> ObservedProgram<'l, L> {
                     file: file.as_deref(),
                     target: target.as_deref(),
                 };
-                self.run_tool(job, input, output, faults, host)
+                self.run_tool(job, console, host)
             }
             Job::Check {
                 digest,
@@ -247,9 +221,7 @@ impl<'l, L: Observer> ObservedProgram<'l, L> {
             } => {
                 let printer = CheckPrinter::new(alloc, format, digest);
                 let report = SurveyReport::new(alloc, printer);
-                SurveyJob::new(alloc, FileNames::of(&names)).run(
-                    report, input, output, faults, host,
-                )
+                SurveyJob::new(alloc, FileNames::of(&names)).run(report, console, host)
             }
             Job::Files {
                 leftovers,
@@ -259,9 +231,7 @@ impl<'l, L: Observer> ObservedProgram<'l, L> {
                 let form = Form { format, leftovers };
                 let printer = FilesPrinter::new(alloc, form);
                 let report = SurveyReport::new(alloc, printer);
-                SurveyJob::new(alloc, FileNames::of(&names)).run(
-                    report, input, output, faults, host,
-                )
+                SurveyJob::new(alloc, FileNames::of(&names)).run(report, console, host)
             }
             Job::Extract {
                 extraction,
@@ -271,29 +241,21 @@ impl<'l, L: Observer> ObservedProgram<'l, L> {
             } => {
                 let form = Form { format, leftovers };
                 let task = Unpacker::new(alloc, setup_of(extraction, form));
-                SurveyJob::new(alloc, FileNames::of(&names)).run_by(
-                    task, input, output, faults, host,
-                )
+                SurveyJob::new(alloc, FileNames::of(&names)).run_by(task, console, host)
             }
             Job::Map { format, file } => {
                 let printer = MapPrinter::new(format);
                 let report = SurveyReport::new(alloc, printer);
                 let files = [file];
-                SurveyJob::new(alloc, FileNames::Given(&files)).run(
-                    report, input, output, faults, host,
-                )
+                SurveyJob::new(alloc, FileNames::Given(&files)).run(report, console, host)
             }
             Job::Catalogue { page, names } => {
                 let printer = CataloguePrinter::new(alloc, page);
                 let report = SurveyReport::new(alloc, printer);
-                SurveyJob::new(alloc, FileNames::of(&names)).run(
-                    report, input, output, faults, host,
-                )
+                SurveyJob::new(alloc, FileNames::of(&names)).run(report, console, host)
             }
             Job::Diff { format, old, new } => {
-                DifferenceJob::new(alloc, format, old.as_str(), new.as_str()).run(
-                    output, faults, host,
-                )
+                DifferenceJob::new(alloc, format, old.as_str(), new.as_str()).run(console, host)
             }
             Job::Merge {
                 merging,
@@ -301,7 +263,7 @@ impl<'l, L: Observer> ObservedProgram<'l, L> {
                 files,
             } => {
                 let setup = merge_setup_of(merging, format, files);
-                MergeJob::new(alloc, &setup).run(output, faults, host)
+                MergeJob::new(alloc, &setup).run(console, host)
             }
         }
     }

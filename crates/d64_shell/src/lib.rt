@@ -16,5 +16,6 @@ pub use d64_undo::{Answer, NothingToRedo, NothingToUndo, Request, Session, run_a
 pub use entry::{ObservedProgram, program, program_on};
 pub use host_storage::{FolderHost, Host, HostFault, MemoryHost};
 pub use program_arguments::{Job, JobFault, job};
+pub use program_console::Console;
 pub use program_exit::ProgramFault;
 pub use script_run::{Observer, Outcome, ShellFault, laws, run, run_on};

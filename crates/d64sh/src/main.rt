@@ -2,7 +2,7 @@
 //! `d64_shell`, and shows the progress of a long run.
 #![tactic(auto)]
 
-use d64_shell::{FolderHost, Job, ObservedProgram, Observer, ProgramFault, job};
+use d64_shell::{Console, FolderHost, Job, ObservedProgram, Observer, ProgramFault, job};
 use host_storage::{Retrying, SizeLimit, StandardStream};
 use program_streams::{
     MarkingWriter, ProgressLine, QuietWriter, WatchedHost, WipingWriter, WithinLimit,
@@ -30,10 +30,9 @@ fn main(rt: HostRuntime) -> ExitCode {
     let is_unread = Cell::new(false);
     let errors = QuietWriter::new(&is_unread, errors);
     let mut errors = WipingWriter::new(&line, errors);
-    let mut faults = OutputStream::new(&mut errors);
-    let status = match start(&rt, &limit, &line, &is_unread, &mut faults) {
+    let status = match start(&rt, &limit, &line, &is_unread, &mut errors) {
         Ok(status) => status,
-        Err(fault) => fault.report_on(&mut faults),
+        Err(fault) => fault.report(&mut errors),
     };
     line.wipe();
     ExitCode::from(status)
@@ -45,7 +44,7 @@ fn start<'a, E: Write>(
     limit: &'a SizeLimit,
     line: &ProgressLine<HostRuntime>,
     is_unread: &Cell<bool>,
-    faults: &mut OutputStream<'_, E>,
+    errors: &mut E,
 ) -> Result<u8, ProgramFault> {
     let arguments = env::args(rt).map_err(fault_of_words)?;
     let arguments: Vec<String> = arguments.skip(1).collect(rt.alloc())?;
@@ -54,13 +53,13 @@ fn start<'a, E: Write>(
         .map(|word| word.as_str())
         .collect(rt.alloc())?;
     if rt.stdout().is_terminal() && asks_for_program(rt.alloc(), words.as_slice()) {
-        let _ = faults.write(PROGRAM_AT_TERMINAL);
+        let _ = OutputStream::new(errors).write(PROGRAM_AT_TERMINAL);
         return Ok(NOT_RUN);
     }
     let output = WithinLimit::new(rt, limit, StandardStream::Output, rt.stdout());
     let is_marking = is_survey(arguments.first());
     let output = Retrying(MarkingWriter::new(is_unread, is_marking, output));
-    run_program(rt, limit, line, output, faults, words.as_slice())
+    run_program(rt, limit, line, output, errors, words.as_slice())
 }
 
 /// Runs the program with these arguments on an output and the process's other streams.
@@ -69,26 +68,26 @@ fn run_program<'a, O: Write + Drop, E: Write>(
     limit: &'a SizeLimit,
     line: &ProgressLine<HostRuntime>,
     output: O,
-    faults: &mut OutputStream<'_, E>,
+    errors: &mut E,
     words: &[&str],
 ) -> Result<u8, ProgramFault> {
     let mut output = BufWriter::new(rt.alloc(), output).map_err(|_| ProgramFault::Memory)?;
     let mut input = Retrying(rt.stdin());
     let is_terminal = rt.stdin().is_terminal() && rt.stderr().is_terminal();
-    let errors = WithinLimit::new(rt, limit, StandardStream::Error, rt.stderr());
-    let mut errors = Retrying(errors);
-    let mut advisor = Advisor::new(rt.alloc(), is_terminal, &mut errors, FolderHost::new(rt));
+    let hints = WithinLimit::new(rt, limit, StandardStream::Error, rt.stderr());
+    let mut hints = Retrying(hints);
+    let mut advisor = Advisor::new(rt.alloc(), is_terminal, &mut hints, FolderHost::new(rt));
     if rt.stderr().is_terminal() {
         advisor.explain_misses();
     }
     let program = program_with(rt.alloc(), &mut advisor);
-    let status = program.run(
-        words,
-        &mut InputStream::new(&mut input),
-        &mut OutputStream::new(&mut output),
-        faults,
-        &mut WatchedHost::new(line, FolderHost::new(rt)),
+    let mut console = Console::new(
+        InputStream::new(&mut input),
+        OutputStream::new(&mut output),
+        OutputStream::new(errors),
     );
+    let mut host = WatchedHost::new(line, FolderHost::new(rt));
+    let status = program.run(words, &mut console, &mut host);
     advisor.end_without_session();
     Ok(status)
 }

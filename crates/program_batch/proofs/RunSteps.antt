@@ -1,11 +1,10 @@
 -- Runs that go on, file by file.
-use Rattle.std.proofs.Common.{◌≡◌, ◌≢◌, ℕ, ◌+◌, ◌<◌, ◌≤◌, List, [], ◌∷◌, ◌++◌, map, take, drop, length, get_or, Result, Ok, Err, refl, sym, ap, ◌∙◌, subst, append_assoc}
+use Rattle.std.proofs.Common.{◌≡◌, ℕ, ◌+◌, ◌<◌, ◌≤◌, List, [], ◌∷◌, ◌++◌, map, take, drop, length, get_or, Result, Ok, Err, refl, sym, ap, ◌∙◌, subst, append_assoc}
 use Rattle.std.proofs.lemmas.List.{take_more, take_all, map-append, take-append-drop}
 use Rattle.program_batch.specs.Names.{Request}
 use Rattle.program_batch.specs.Answers.{Effects}
 use Rattle.program_batch.specs.Runs.{RunState, Steps, Answers, StopsAt, StopsIn, Runs, EndsAt}
-use Rattle.program_batch.specs.declared.batch.RunFault.{RunFault}
-use Rattle.program_batch.specs.declared.batch.RunFault.TheVariants as faults
+use Rattle.program_console.specs.declared.stream_fault.StreamFault.{StreamFault}
 
 -- no files
 pub Steps-none : (effects : Effects) (a : RunState) → Steps effects [] a a
@@ -24,13 +23,13 @@ Steps-append effects [] ys a b c first others = subst (λ s. Steps effects ys s 
 Steps-append effects (x ∷ xs) ys a b c first others = (first.0, first.1, Steps-append effects xs ys first.0 b c first.2 others)
 
 -- a run over one file ends as that file ends
-pub Runs-one : {A : Type 0} (effects : Effects) (request : Request) (a b : RunState) (result : Result A RunFault) → EndsAt effects request a b result → Runs effects (request ∷ []) a b result
+pub Runs-one : {A : Type 0} (effects : Effects) (request : Request) (a b : RunState) (result : Result A StreamFault) → EndsAt effects request a b result → Runs effects (request ∷ []) a b result
 Runs-one effects request a b (Ok done) ends = Steps-one effects request a b ends
 Runs-one effects request a b (Err fault) ends =
     record { before = []; request = request; rest = []; split = refl; middle = a; answered = Steps-none effects a; stopped = ends }
 
 -- a run that goes on to other files
-pub Runs-append : {A : Type 0} (effects : Effects) (xs ys : List Request) (a b c : RunState) (result : Result A RunFault)
+pub Runs-append : {A : Type 0} (effects : Effects) (xs ys : List Request) (a b c : RunState) (result : Result A StreamFault)
     → Steps effects xs a b → Runs effects ys b c result → Runs effects (xs ++ ys) a c result
 Runs-append effects xs ys a b c (Ok done) first others = Steps-append effects xs ys a b c first others
 Runs-append effects xs ys a b c (Err fault) first others = record {
@@ -44,7 +43,7 @@ Runs-append effects xs ys a b c (Err fault) first others = record {
 }
 
 -- a run that stops does so whatever would come after
-pub StopsIn-more : (effects : Effects) (xs more : List Request) (fault : RunFault) (a b : RunState) → StopsIn effects xs fault a b → StopsIn effects (xs ++ more) fault a b
+pub StopsIn-more : (effects : Effects) (xs more : List Request) (fault : StreamFault) (a b : RunState) → StopsIn effects xs fault a b → StopsIn effects (xs ++ more) fault a b
 StopsIn-more effects xs more fault a b stop = record {
   before = stop.before;
   request = stop.request;
@@ -69,7 +68,7 @@ Steps-next effects same f xs i x request a b c within is first is_same is_asked 
     (Steps-append effects (map f (take i xs)) (f x ∷ []) a b c first (Steps-one effects (f x) b c (subst (λ (r : Effects). Answers r (f x) b c) is_same (subst (λ (y : Request). Answers same y b c) is_asked answers))))
 
 -- a run stops at the next one
-pub Runs-stopped : {A X : Type 0} (effects same : Effects) (f : X → Request) (xs : List X) (i : ℕ) (x : X) (request : Request) (fault : RunFault) (result : Result A RunFault) (a b c : RunState)
+pub Runs-stopped : {A X : Type 0} (effects same : Effects) (f : X → Request) (xs : List X) (i : ℕ) (x : X) (request : Request) (fault : StreamFault) (result : Result A StreamFault) (a b c : RunState)
     → i < length xs → x ≡ get_or xs i x → Steps effects (map f (take i xs)) a b → same ≡ effects → request ≡ f x → StopsAt same request fault b c → result ≡ Err fault
     → Runs effects (map f xs) a c result
 Runs-stopped {A} {X} effects same f xs i x request fault result a b c within is first is_same is_asked stops is_err =
@@ -85,13 +84,9 @@ Runs-stopped {A} {X} effects same f xs i x request fault result a b c within is 
       answered = first;
       stopped = subst (λ (r : Effects). StopsAt r (f x) fault b c) is_same (subst (λ (y : Request). StopsAt same y fault b c) is_asked stops);
     } in
-    subst (λ (r : Result A RunFault). Runs effects (map f xs) a c r) (sym is_err) stopped
+    subst (λ (r : Result A StreamFault). Runs effects (map f xs) a c r) (sym is_err) stopped
 
 -- all files are processed
 pub Steps-all : {X : Type 0} (effects : Effects) (f : X → Request) (xs : List X) (i : ℕ) (a b : RunState)
     → length xs ≤ i → Steps effects (map f (take i xs)) a b → Steps effects (map f xs) a b
 Steps-all {X} effects f xs i a b all steps = subst (λ (l : List X). Steps effects (map f l) a b) (take_all i xs all) steps
-
--- processing a file never stops by a fault of the list
-pub EndsAt-never : {A : Type 0} (effects : Effects) (request : Request) (a b : RunState) (result : Result A RunFault) → EndsAt effects request a b result → result ≢ Err faults.List
-EndsAt-never {A} effects request a b result ends is = subst (λ (r : Result A RunFault). EndsAt effects request a b r) is ends

@@ -8,8 +8,8 @@ use Rattle.program_batch.specs.Answers.{Answer, Effects}
 use Rattle.program_batch.specs.Runs.{EndsServing, EndsUnread, Halts, IsFetched, IsRead, Serves, given_by}
 use Rattle.program_batch.specs.declared.reason.Reason.{Reason}
 use Rattle.program_batch.specs.declared.report.Verdict.{Verdict}
-use Rattle.program_batch.specs.declared.batch.RunFault.{RunFault}
-use Rattle.program_batch.specs.declared.batch.RunFault.TheVariants as faults
+use Rattle.program_console.specs.declared.stream_fault.StreamFault.{StreamFault}
+use Rattle.program_console.specs.declared.stream_fault.StreamFault.TheVariants as faults
 
 -- a file was read and processed
 pub serves_read : (effects : Effects) (name bytes : List ℕ) (old host new : HostState) (answer : Answer)
@@ -31,7 +31,7 @@ pub halts_read : (effects : Effects) (name bytes : List ℕ) (old host new : Hos
 halts_read effects name bytes old host new read halted = record { bytes = Some bytes; host = host; read = read; halted = halted }
 
 -- a file that could not be read ends as its task ends
-pub ends_unread : (effects : Effects) (name : List ℕ) (fault : HostFault) (reason : Option Reason) (old host new : HostState) (answer : Verdict → Answer) (result : Result Verdict RunFault)
+pub ends_unread : (effects : Effects) (name : List ℕ) (fault : HostFault) (reason : Option Reason) (old host new : HostState) (answer : Verdict → Answer) (result : Result Verdict StreamFault)
     → IsFetched name old (Err fault) host → given_by (Err fault) ≡ Some None → IsReason host.files name fault reason
     → EndsUnread effects name reason host new answer result → EndsServing effects (File name) old new answer result
 ends_unread effects name fault reason old host new answer (Ok verdict) fetched given is_reason ends = record {
@@ -47,7 +47,7 @@ ends_unread effects name fault reason old host new answer (Ok verdict) fetched g
 ends_unread effects name fault reason old host new answer (Err faults.Memory) fetched given is_reason ends =
     inl (record { bytes = None; host = host; read = (Err fault, fetched, given); halted = ends })
 ends_unread effects name fault reason old host new answer (Err faults.Write) fetched given is_reason ends = absurd ends
-ends_unread effects name fault reason old host new answer (Err faults.List) fetched given is_reason ends = absurd ends
+ends_unread effects name fault reason old host new answer (Err faults.Read) fetched given is_reason ends = absurd ends
 
 -- a name that cannot be a file's was processed
 pub serves_no_file : (effects : Effects) (name : List ℕ) (reason : Reason) (old new : HostState) (answer : Verdict → Answer) (verdict : Verdict)

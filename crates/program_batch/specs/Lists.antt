@@ -1,77 +1,82 @@
 -- Runs over the names of a list, as its bytes come.
-use Rattle.std.specs.Prelude.{◌≡◌, ◌≢◌, ◌<◌, ◌≤◌, ℕ, Bool, true, List, [], ◌∷◌, ◌++◌, ◌⊎◌, length, All, map, Option, IfSome, Result, Ok, Err}
-use Rattle.std.specs.Io.KnownBytes.{Consumes}
-use Rattle.script_text.specs.Input.{read_limit}
-use Rattle.program_batch.specs.Names.{kept_name, listed_name, names_in}
-use Rattle.program_batch.specs.Answers.{Effects}
-use Rattle.program_batch.specs.Runs.{RunState, Steps, StopsIn}
-use Rattle.program_batch.specs.declared.batch.RunFault.{RunFault}
-use Rattle.program_batch.specs.declared.batch.RunFault.TheVariants as faults
-
--- the names in these bytes of a list are processed
-abbrev pub AnswersList : Effects → ℕ → List ℕ → RunState → RunState → Type 0
-AnswersList effects separator bytes old new = Steps effects (map listed_name (names_in separator bytes)) old new
-
--- a run stops at one of the names in these bytes
-abbrev pub StopsInList : Effects → ℕ → List ℕ → RunFault → RunState → RunState → Type 0
-StopsInList effects separator bytes fault old new = StopsIn effects (map listed_name (names_in separator bytes)) fault old new
-
--- there are no bytes, or they end with a separator
-abbrev pub IsEnded : ℕ → List ℕ → Type 0
-IsEnded separator bytes = (bytes ≡ []) ⊎ ((before : List ℕ) × (bytes ≡ before ++ separator ∷ []))
-
--- how far a list has come with these bytes: the names that are ended are processed, and this is
--- kept of the one that is not
-pub record HasCome (effects : Effects) (separator : ℕ) (first now : RunState) (held came : List ℕ) : Type 0 where
-  pub ended : List ℕ
-  pub raw : List ℕ
-  pub parts : ended ++ raw ≡ came
-  pub is_ended : IsEnded separator ended
-  pub unended : All (λ byte. byte ≢ separator) raw
-  pub keeps : held ≡ kept_name raw
-  pub answered : AnswersList effects separator ended first now
-
--- the most bytes of a list that is read as it comes
-abbrev pub list_limit : ℕ
-list_limit = 16777216
-
--- the most reads of a list, each of which gives at least one byte
-abbrev pub reads_limit : ℕ
-reads_limit = 1000000
-
--- why a list of which this many bytes came cannot be read to its end: a read failed, or the list is
--- longer than the most reads can give
-abbrev pub IsCutShort : Bool → ℕ → Type 0
-IsCutShort has_failed came = (has_failed ≡ true) ⊎ (reads_limit ≤ came)
+use Rattle.std.specs.Prelude.{◌≡◌, ℕ, Bool, List, Option, Result, Ok, Err, OnOk}
+use Rattle.host_storage.specs.Files.{HostState}
+use Rattle.script_parts.specs.Parts.{CutsShort, Ends}
+use Rattle.program_batch.specs.Names.{kept_name, requests_in}
+use Rattle.program_batch.specs.Answers.{Effects, KeepsQuiet}
+use Rattle.program_batch.specs.Runs.{RunState, Runs, Steps, StopsIn, run_state_at}
+use Rattle.program_console.specs.declared.stream_fault.StreamFault.{StreamFault}
+use Rattle.program_console.specs.declared.stream_fault.StreamFault.TheVariants as faults
+use Rattle.program_console.specs.Console.{Delivers, SameWriters}
+use Rattle.program_batch.specs.declared.list_batch.ListRun.{ListRun}
+use Rattle.program_batch.specs.declared.report.Verdict.TheVariants.{Clean}
 
 -- the whole list was read, and all of its names are processed
-pub record AnswersStream (effects : Effects) (separator : ℕ) (reader : Option (List ℕ)) (old new : RunState) : Type 0 where
-  pub list : List ℕ
-  pub all : IfSome reader (λ bytes. list ≡ bytes)
-  pub answered : AnswersList effects separator list old new
+abbrev pub AnswersStream : Effects → ℕ → Option (List ℕ) → RunState → RunState → Type 0
+AnswersStream effects separator reader old new = Ends (λ parts. Steps effects (requests_in parts) old new) separator reader
 
--- a list cannot be read to its end: all names that were ended before are processed, and the bytes
--- of a read that passes the limit are ignored
-pub record LosesStream (effects : Effects) (separator : ℕ) (reader left : Option (List ℕ)) (has_failed : Bool) (old new : RunState) : Type 0 where
-  pub consumed : List ℕ
-  pub lost : Consumes reader left consumed
-  pub cause : IsCutShort has_failed (length consumed)
-  pub came : List ℕ
-  pub beyond : List ℕ
-  pub parts : came ++ beyond ≡ consumed
-  pub limit : (beyond ≡ []) ⊎ ((list_limit < length consumed) × (length beyond ≤ read_limit))
-  pub held : List ℕ
-  pub has_come : HasCome effects separator old new held came
+-- a list cannot be read to its end: the names that have ended within the limit are processed
+abbrev pub LosesStream : Effects → ℕ → Option (List ℕ) → Option (List ℕ) → Bool → RunState → RunState → Type 0
+LosesStream effects separator reader left has_failed old new =
+    CutsShort (λ parts begun. Steps effects (requests_in parts) old new) separator reader left has_failed
 
 -- a run stops at a name of a list that is read as it comes
-pub record StopsInStream (effects : Effects) (separator : ℕ) (reader : Option (List ℕ)) (fault : RunFault) (old new : RunState) : Type 0 where
-  pub list : List ℕ
-  pub all : IfSome reader (λ bytes. list ≡ bytes)
-  pub stopped : StopsInList effects separator list fault old new
+abbrev pub StopsInStream : Effects → ℕ → Option (List ℕ) → StreamFault → RunState → RunState → Type 0
+StopsInStream effects separator reader fault old new = Ends (λ parts. StopsIn effects (requests_in parts) fault old new) separator reader
 
 -- how a run over a list that is read as it comes ends; the flag says whether a read failed
-abbrev pub RunsStream : {A : Type 0} → Effects → ℕ → Option (List ℕ) → Option (List ℕ) → Bool → RunState → RunState → Result A RunFault → Type 0
+abbrev pub RunsStream : {A : Type 0} → Effects → ℕ → Option (List ℕ) → Option (List ℕ) → Bool → RunState → RunState → Result A StreamFault → Type 0
 RunsStream effects separator reader left has_failed old new (Ok done) = AnswersStream effects separator reader old new
-RunsStream effects separator reader left has_failed old new (Err faults.List) = LosesStream effects separator reader left has_failed old new
+RunsStream effects separator reader left has_failed old new (Err faults.Read) = LosesStream effects separator reader left has_failed old new
 RunsStream effects separator reader left has_failed old new (Err faults.Write) = StopsInStream effects separator reader faults.Write old new
 RunsStream effects separator reader left has_failed old new (Err faults.Memory) = StopsInStream effects separator reader faults.Memory old new
+
+-- a run that goes on has what it was lent
+pub record KeepsLent {H C W F : Type 0} (first now : ListRun H C W F) : Type 0 where
+  pub list : now.list.ghost_name ≡ first.list.ghost_name
+  pub host : now.host.ghost_name ≡ first.host.ghost_name
+  pub task : now.task.ghost_name ≡ first.task.ghost_name
+  pub outputs : now.outputs.ghost_name ≡ first.outputs.ghost_name
+  pub writers : SameWriters first.outputs.now now.outputs.now
+
+-- how the state and the effects of a run over a list are read from what it has
+pub record ListView (H C W F : Type 0) : Type 1 where
+  pub Options : Type 0
+  pub options : C → Options
+  pub effects : Options → Effects
+  pub host : H → HostState
+  pub printed : W → Option (List ℕ)
+  pub complained : F → Option (List ℕ)
+
+abbrev pub view_of : {H C W F O : Type 0} → (C → O) → (O → Effects) → (H → HostState) → (W → Option (List ℕ)) → (F → Option (List ℕ)) → ListView H C W F
+view_of {H} {C} {W} {F} {O} options effects host printed complained =
+    record { Options = O; options = options; effects = effects; host = host; printed = printed; complained = complained }
+
+-- the effects of the task of a run, and its state
+abbrev pub effects_of : {H C W F : Type 0} → ListView H C W F → ListRun H C W F → Effects
+effects_of view run = view.effects (view.options run.task.now)
+
+abbrev pub state_of : {H C W F : Type 0} → ListView H C W F → ListRun H C W F → RunState
+state_of view run = run_state_at view.printed view.complained run.outputs.now (view.host run.host.now) run.list.now.batch.worst
+
+-- what stays the same in a run over a list; a quiet task that finds nothing amiss leaves the
+-- standard error alone
+pub record KeepsList {H C W F : Type 0} (view : ListView H C W F) (first now : ListRun H C W F) : Type 0 where
+  pub lent : KeepsLent first now
+  pub separator : now.list.now.separator ≡ first.list.now.separator
+  pub options : view.options now.task.now ≡ view.options first.task.now
+  pub silent : KeepsQuiet (effects_of view first) → now.list.now.batch.worst ≡ Clean
+      → (first.list.now.batch.worst ≡ Clean) × (now.outputs.now.faults ≡ first.outputs.now.faults)
+
+-- a run has come through these parts of a list and the bytes of the next one, which it holds
+pub record HasComeTo {H C W F : Type 0} (view : ListView H C W F) (first now : ListRun H C W F) (parts : List (List ℕ)) (begun : List ℕ) : Type 0 where
+  pub keeps : KeepsList view first now
+  pub delivered : Delivers first.outputs.now.output now.outputs.now.output
+  pub held : now.list.now.name ≡ kept_name begun
+  pub answered : Steps (effects_of view first) (requests_in parts) (state_of view first) (state_of view now)
+
+-- a run over a list of these parts has ended
+pub record EndsList {H C W F : Type 0} (view : ListView H C W F) (first now : ListRun H C W F) (parts : List (List ℕ)) (ended : Result (Unit {0}) StreamFault) : Type 0 where
+  pub keeps : KeepsList view first now
+  pub delivered : OnOk ended (Delivers first.outputs.now.output now.outputs.now.output)
+  pub answered : Runs (effects_of view first) (requests_in parts) (state_of view first) (state_of view now) ended

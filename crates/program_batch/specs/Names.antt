@@ -1,6 +1,5 @@
 -- The names of a list of files.
-use Rattle.std.specs.Prelude.{ℕ, nat_eq, nat_lt, nat_le, Bool, ◌&&◌, if◌then◌else◌, List, [], ◌∷◌, ◌++◌, map, filter, take, length, codes}
-use Rattle.std.specs.List.{slice_split}
+use Rattle.std.specs.Prelude.{ℕ, nat_lt, nat_le, Bool, ◌&&◌, if◌then◌else◌, List, [], ◌∷◌, ◌++◌, map, filter, take, length, codes}
 use Rattle.std.specs.Str.{is_utf8}
 use Rattle.program_batch.specs.declared.reason.Reason.{Reason}
 use Rattle.program_batch.specs.declared.reason.Reason.TheVariants.{NotUtf8, LongName}
@@ -16,11 +15,6 @@ kept_name name = take 4097 name
 -- a piece between separators is a name, unless it is empty
 abbrev pub is_name : List ℕ → Bool
 is_name piece = nat_lt 0 (length piece)
-
--- the names of a list, as far as they are kept: its pieces between separators, without the empty
--- ones
-unfoldable pub names_in : ℕ → List ℕ → List (List ℕ)
-names_in separator list = map kept_name (filter is_name (slice_split (nat_eq separator) list))
 
 -- what a run is given: a file with this name, or a name that cannot be a file's, with what is shown
 -- of it and the reason
@@ -48,3 +42,8 @@ listed_name name = if is_file_name name then File name else NoFile (shortened_na
 -- the requests for a piece of a list of which this is kept: none if it is empty
 abbrev pub requests_of : List ℕ → List Request
 requests_of piece = if is_name piece then listed_name piece ∷ [] else []
+
+-- the requests for the parts of a list between its separators: one for each name, none for the
+-- empty parts
+unfoldable pub requests_in : List (List ℕ) → List Request
+requests_in parts = map listed_name (map kept_name (filter is_name parts))

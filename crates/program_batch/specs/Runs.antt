@@ -5,16 +5,17 @@ use Rattle.host_storage.specs.Files.{HostState}
 use Rattle.host_storage.specs.Host.{Fetches, CountsDevice}
 use Rattle.host_storage.specs.declared.host.HostFault.{HostFault}
 use Rattle.host_storage.specs.declared.host.HostFault.TheVariants.{Missing, Device, TooLong, Memory}
-use Rattle.script_text.specs.Output.{Account, AppendsPart, Writes, account_of}
-use Rattle.script_text.specs.declared.output.OutputStream.{OutputStream}
+use Rattle.script_text.specs.Output.{Account, AppendsPart, Writes}
+use Rattle.program_console.specs.Outside.{account_at}
+use Rattle.program_console.specs.declared.console.Outputs.{Outputs}
 use Rattle.program_batch.specs.Names.{Request, File, NoFile}
 use Rattle.program_batch.specs.Reasons.{IsReason, with_known_reason}
 use Rattle.program_batch.specs.declared.reason.Reason.{Reason}
 use Rattle.program_batch.specs.Answers.{Answer, Effects, worse_verdict}
 use Rattle.program_batch.specs.declared.report.Verdict.{Verdict}
 use Rattle.script_text.specs.declared.output.WriteFault.{WriteFault}
-use Rattle.program_batch.specs.declared.batch.RunFault.{RunFault}
-use Rattle.program_batch.specs.declared.batch.RunFault.TheVariants as faults
+use Rattle.program_console.specs.declared.stream_fault.StreamFault.{StreamFault}
+use Rattle.program_console.specs.declared.stream_fault.StreamFault.TheVariants as faults
 
 -- the most bytes of a file
 abbrev pub file_limit : ℕ
@@ -37,18 +38,13 @@ reported_of output error worst = record { output = output; error = error; worst 
 abbrev pub run_state : HostState → Reported → RunState
 run_state host reported = record { host = host; reported = reported }
 
--- what is known of an output stream, by the bytes of its writer
-abbrev pub account_at : {W : Type 0} → (W → Option (List ℕ)) → OutputStream W → Account
-account_at contents stream = account_of (contents stream.writer.now) stream.has_failed
+-- what the outputs have so far, by the bytes of their writers
+abbrev pub reported_at : {W F : Type 0} → (W → Option (List ℕ)) → (F → Option (List ℕ)) → Outputs W F → Verdict → Reported
+reported_at written complained outputs worst = reported_of (account_at written outputs.output) (account_at complained outputs.faults) worst
 
--- what two output streams have so far, by the bytes of their writers
-abbrev pub reported_at : {W F : Type 0} → (W → Option (List ℕ)) → OutputStream W → (F → Option (List ℕ)) → OutputStream F → Verdict → Reported
-reported_at written output complained faults worst = reported_of (account_at written output) (account_at complained faults) worst
-
--- the state of a run, by the state of the host and the bytes of the two writers
-abbrev pub run_state_at : {H W F : Type 0} → (H → HostState) → H → (W → Option (List ℕ)) → OutputStream W → (F → Option (List ℕ)) → OutputStream F → Verdict → RunState
-run_state_at state host written output complained faults worst =
-    run_state (state host) (reported_at written output complained faults worst)
+-- the state of a run, by the bytes of the two writers and the state of the host
+abbrev pub run_state_at : {W F : Type 0} → (W → Option (List ℕ)) → (F → Option (List ℕ)) → Outputs W F → HostState → Verdict → RunState
+run_state_at written complained outputs host worst = run_state host (reported_at written complained outputs worst)
 
 -- what a fetch gives to a task: the bytes, or None if the file cannot be read; nothing at all if
 -- memory ran out
@@ -109,11 +105,11 @@ ReportsResult answer old new (Err fault) = IsCut answer old new
 
 -- how printing the heading ends: it is printed; or the output failed and has a first part of it; or
 -- memory ran out
-abbrev pub Begins : {A : Type 0} → List ℕ → Account → Account → Result A RunFault → Type 0
+abbrev pub Begins : {A : Type 0} → List ℕ → Account → Account → Result A StreamFault → Type 0
 Begins heading old new (Ok done) = Appends old.contents new.contents heading × (new.has_failed ≡ old.has_failed)
 Begins heading old new (Err faults.Write) = AppendsPart old.contents new.contents heading × (new.has_failed ≡ true)
 Begins heading old new (Err faults.Memory) = new ≡ old
-Begins heading old new (Err faults.List) = ⊥
+Begins heading old new (Err faults.Read) = ⊥
 
 -- a file is read and has this result, with the reason if it could not be read
 pub record Serves (effects : Effects) (request : Request) (old : HostState) (answer : Answer) (new : HostState) : Type 0 where
@@ -157,23 +153,23 @@ pub record Halts (effects : Effects) (request : Request) (old new : HostState) :
   pub halted : HaltsAt effects (shown_name request) bytes host new
 
 -- how a file that could not be read ends, if this is its result
-abbrev pub EndsUnread : Effects → List ℕ → Option Reason → HostState → HostState → (Verdict → Answer) → Result Verdict RunFault → Type 0
+abbrev pub EndsUnread : Effects → List ℕ → Option Reason → HostState → HostState → (Verdict → Answer) → Result Verdict StreamFault → Type 0
 EndsUnread effects name reason old new answer (Ok verdict) =
     (plain : Answer) × effects.does name None old plain new × (answer verdict ≡ explained reason plain)
 EndsUnread effects name reason old new answer (Err faults.Memory) = HaltsAt effects name None old new
 EndsUnread effects name reason old new answer (Err faults.Write) = ⊥
-EndsUnread effects name reason old new answer (Err faults.List) = ⊥
+EndsUnread effects name reason old new answer (Err faults.Read) = ⊥
 
 -- memory ran out while a file was read or processed
 abbrev pub Wants : Effects → Request → HostState → HostState → Type 0
 Wants effects request old new = Halts effects request old new ⊎ (new ≡ old)
 
 -- how a file that is read and processed ends, if this is its result
-abbrev pub EndsServing : Effects → Request → HostState → HostState → (Verdict → Answer) → Result Verdict RunFault → Type 0
+abbrev pub EndsServing : Effects → Request → HostState → HostState → (Verdict → Answer) → Result Verdict StreamFault → Type 0
 EndsServing effects request old new answer (Ok verdict) = Serves effects request old (answer verdict) new
 EndsServing effects request old new answer (Err faults.Memory) = Wants effects request old new
 EndsServing effects request old new answer (Err faults.Write) = ⊥
-EndsServing effects request old new answer (Err faults.List) = ⊥
+EndsServing effects request old new answer (Err faults.Read) = ⊥
 
 -- memory ran out: nothing was written about the file
 pub record WantsMemory (effects : Effects) (request : Request) (old new : RunState) : Type 0 where
@@ -181,18 +177,18 @@ pub record WantsMemory (effects : Effects) (request : Request) (old new : RunSta
   pub reported : new.reported ≡ old.reported
 
 -- a run stops at a file, by a fault
-abbrev pub StopsAt : Effects → Request → RunFault → RunState → RunState → Type 0
+abbrev pub StopsAt : Effects → Request → StreamFault → RunState → RunState → Type 0
 StopsAt effects request faults.Write old new = FailsToReport effects request old new
 StopsAt effects request faults.Memory old new = WantsMemory effects request old new
-StopsAt effects request faults.List old new = ⊥
+StopsAt effects request faults.Read old new = ⊥
 
 -- how processing a file ends
-abbrev pub EndsAt : {A : Type 0} → Effects → Request → RunState → RunState → Result A RunFault → Type 0
+abbrev pub EndsAt : {A : Type 0} → Effects → Request → RunState → RunState → Result A StreamFault → Type 0
 EndsAt effects request old new (Ok done) = Answers effects request old new
 EndsAt effects request old new (Err fault) = StopsAt effects request fault old new
 
 -- a run stops at one of these files, after those before it were processed
-pub record StopsIn (effects : Effects) (all : List Request) (fault : RunFault) (old new : RunState) : Type 0 where
+pub record StopsIn (effects : Effects) (all : List Request) (fault : StreamFault) (old new : RunState) : Type 0 where
   pub before : List Request
   pub request : Request
   pub rest : List Request
@@ -202,6 +198,6 @@ pub record StopsIn (effects : Effects) (all : List Request) (fault : RunFault) (
   pub stopped : StopsAt effects request fault middle new
 
 -- how a run over these files ends: all are processed, or it stops at one
-abbrev pub Runs : {A : Type 0} → Effects → List Request → RunState → RunState → Result A RunFault → Type 0
+abbrev pub Runs : {A : Type 0} → Effects → List Request → RunState → RunState → Result A StreamFault → Type 0
 Runs effects all old new (Ok done) = Steps effects all old new
 Runs effects all old new (Err fault) = StopsIn effects all fault old new

@@ -2,54 +2,21 @@
 ghost use Rattle.std.specs.Prelude.{◌≡◌, [], true, map, string_bytes, IfOk, OnErr, OnOk};
 ghost use Rattle.program_batch.specs.Names.{File, NoFile as no_file};
 ghost use Rattle.program_batch.specs.Answers.{KeepsQuiet, answer_of};
-ghost use Rattle.program_batch.specs.Runs.{Begins, EndsAt, EndsServing, EndsUnread, Runs, ReportsResult, account_at, run_state_at, reported_at};
+ghost use Rattle.program_batch.specs.Runs.{Begins, EndsAt, EndsServing, EndsUnread, Runs, ReportsResult, run_state_at, reported_at};
+ghost use Rattle.program_console.specs.Console.{Delivers, SameWriters, StaysDelivered};
+ghost use Rattle.program_console.specs.Outside.{account_at};
 
 use crate::reason::{Reason, push_known_reason, reason_of};
 use crate::report::{ReportBuffer, Verdict};
 use crate::task::FileTask;
 use host_storage::{Host, HostFault};
-use script_text::output::{OutputStream, WriteFault};
-use std::alloc::{AllocError, Global};
+use program_console::{Outputs, StreamFault};
+use script_text::output::WriteFault;
+use std::alloc::Global;
 use std::io::Write;
-use thiserror::Error;
 
 /// The most bytes of an image, a program or a text that are read from a file.
 pub const FILE_BYTES: usize = 16_777_216;
-
-/// Why a run stopped before its last file.
-#[derive(Clone, Copy, Debug, PartialEq, Eq, Error)]
-pub enum RunFault {
-    /// The list of names cannot be read to its end. All names that were ended before are processed.
-    #[error("the list of names cannot be read")]
-    List,
-    /// The output takes no more bytes.
-    #[error("write fault")]
-    Write,
-    #[error("out of memory")]
-    Memory,
-}
-
-impl From<AllocError> for RunFault {
-    ghost use Rattle.std.specs.Prelude.{◌≡◌};
-    ghost use Rattle.program_batch.specs.declared.batch.RunFault.TheVariants.{Memory};
-
-    ghost from_gives = { λ _ fault. fault ≡ Memory };
-
-    fn from(_error: AllocError) -> RunFault {
-        RunFault::Memory
-    }
-}
-
-impl From<WriteFault> for RunFault {
-    ghost use Rattle.std.specs.Prelude.{◌≡◌};
-    ghost use Rattle.program_batch.specs.declared.batch.RunFault.TheVariants.{Write};
-
-    ghost from_gives = { λ _ fault. fault ≡ Write };
-
-    fn from(_fault: WriteFault) -> RunFault {
-        RunFault::Write
-    }
-}
 
 /// A name that cannot be a file's: how it is shown, and why.
 #[derive(Clone, Copy, Debug)]
@@ -87,21 +54,20 @@ impl Batch {
     }
 
     /// Prints the heading and flushes the output.
-    pub fn begin<C: FileTask, W: Write>(
+    pub fn begin<C: FileTask, W: Write, F: Write>(
         &mut self,
         task: &mut C,
-        output: &mut OutputStream<'_, W>,
-    ) -> Result<(), RunFault>
-        ensures output { output.new.writer.ghost_name ≡ output.old.writer.ghost_name }
+        outputs: &mut Outputs<'_, W, F>,
+    ) -> Result<(), StreamFault>
+        ensures same { SameWriters outputs.old outputs.new }
         ensures options { C.options task.new ≡ C.options task.old }
-        ensures delivered { OnOk result (output.new.is_delivered ≡ true) }
-        ensures unfailed { OnOk result (output.new.has_failed ≡ output.old.has_failed) }
+        ensures delivered { OnOk result (Delivers outputs.old.output outputs.new.output) }
         ensures worst { self.new.worst ≡ self.old.worst }
-        ensures begun { Begins (C.heading task.old) (account_at W.contents output.old) (account_at W.contents output.new) result }
+        ensures silent { outputs.new.faults ≡ outputs.old.faults }
+        ensures begun { Begins (C.heading task.old) (account_at W.contents outputs.old.output) (account_at W.contents outputs.new.output) result }
     {
         task.head(&mut self.buffer)?;
-        output.write(self.buffer.printed.as_slice())?;
-        output.flush()?;
+        outputs.print(self.buffer.printed.as_slice())?;
         Ok(())
     }
 
@@ -111,21 +77,18 @@ impl Batch {
         name: &str,
         host: &mut H,
         task: &mut C,
-        output: &mut OutputStream<'_, W>,
-        faults: &mut OutputStream<'_, F>,
-    ) -> Result<(), RunFault>
-        ensures output { output.new.writer.ghost_name ≡ output.old.writer.ghost_name }
-        ensures faults { faults.new.writer.ghost_name ≡ faults.old.writer.ghost_name }
+        outputs: &mut Outputs<'_, W, F>,
+    ) -> Result<(), StreamFault>
+        ensures same { SameWriters outputs.old outputs.new }
         ensures options { C.options task.new ≡ C.options task.old }
-        ensures delivered { OnOk result (output.new.is_delivered ≡ true) }
-        ensures unfailed { OnOk result (output.new.has_failed ≡ output.old.has_failed) }
-        ensures silent { KeepsQuiet (C.effects (C.options task.old)) → self.new.worst ≡ Verdict.Clean → (self.old.worst ≡ Verdict.Clean) × (faults.new ≡ faults.old) }
+        ensures delivered { OnOk result (Delivers outputs.old.output outputs.new.output) }
+        ensures silent { KeepsQuiet (C.effects (C.options task.old)) → self.new.worst ≡ Verdict.Clean → (self.old.worst ≡ Verdict.Clean) × (outputs.new.faults ≡ outputs.old.faults) }
         ensures answered { EndsAt (C.effects (C.options task.old)) (File name.now)
-            (run_state_at H.state host.old W.contents output.old F.contents faults.old self.old.worst)
-            (run_state_at H.state host.new W.contents output.new F.contents faults.new self.new.worst) result }
+            (run_state_at W.contents F.contents outputs.old (H.state host.old) self.old.worst)
+            (run_state_at W.contents F.contents outputs.new (H.state host.new) self.new.worst) result }
     {
         let verdict = self.serve(name, host, task)?;
-        self.report_result(verdict, output, faults)?;
+        self.report_result(verdict, outputs)?;
         Ok(())
     }
 
@@ -136,7 +99,7 @@ impl Batch {
         name: &str,
         host: &mut H,
         task: &mut C,
-    ) -> Result<Verdict, RunFault>
+    ) -> Result<Verdict, StreamFault>
         ensures options { C.options task.new ≡ C.options task.old }
         ensures worst { self.new.worst ≡ self.old.worst }
         ensures quiet { IfOk result (λ verdict. KeepsQuiet (C.effects (C.options task.old)) → verdict ≡ Verdict.Clean → self.new.buffer.complaint.items ≡ []) }
@@ -148,7 +111,7 @@ impl Batch {
                 let bytes = Some(self.bytes.as_slice());
                 Ok(task.answer(name.as_bytes(), bytes, host, &mut self.buffer)?)
             }
-            Err(HostFault::Memory(_)) => Err(RunFault::Memory),
+            Err(HostFault::Memory(_)) => Err(StreamFault::Memory),
             Err(fault) => {
                 let reason = reason_of(host, name, fault);
                 self.serve_unread(name.as_bytes(), reason, host, task)
@@ -164,7 +127,7 @@ impl Batch {
         reason: Option<Reason>,
         host: &mut H,
         task: &mut C,
-    ) -> Result<Verdict, RunFault>
+    ) -> Result<Verdict, StreamFault>
         ensures options { C.options task.new ≡ C.options task.old }
         ensures worst { self.new.worst ≡ self.old.worst }
         ensures quiet { IfOk result (λ verdict. KeepsQuiet (C.effects (C.options task.old)) → verdict ≡ Verdict.Clean → self.new.buffer.complaint.items ≡ []) }
@@ -183,21 +146,18 @@ impl Batch {
         name: NoFile<'_>,
         host: &mut H,
         task: &mut C,
-        output: &mut OutputStream<'_, W>,
-        faults: &mut OutputStream<'_, F>,
-    ) -> Result<(), RunFault>
-        ensures output { output.new.writer.ghost_name ≡ output.old.writer.ghost_name }
-        ensures faults { faults.new.writer.ghost_name ≡ faults.old.writer.ghost_name }
+        outputs: &mut Outputs<'_, W, F>,
+    ) -> Result<(), StreamFault>
+        ensures same { SameWriters outputs.old outputs.new }
         ensures options { C.options task.new ≡ C.options task.old }
-        ensures delivered { OnOk result (output.new.is_delivered ≡ true) }
-        ensures unfailed { OnOk result (output.new.has_failed ≡ output.old.has_failed) }
-        ensures silent { KeepsQuiet (C.effects (C.options task.old)) → self.new.worst ≡ Verdict.Clean → (self.old.worst ≡ Verdict.Clean) × (faults.new ≡ faults.old) }
+        ensures delivered { OnOk result (Delivers outputs.old.output outputs.new.output) }
+        ensures silent { KeepsQuiet (C.effects (C.options task.old)) → self.new.worst ≡ Verdict.Clean → (self.old.worst ≡ Verdict.Clean) × (outputs.new.faults ≡ outputs.old.faults) }
         ensures answered { EndsAt (C.effects (C.options task.old)) (no_file name.entry.shown.now name.entry.reason)
-            (run_state_at H.state host.old W.contents output.old F.contents faults.old self.old.worst)
-            (run_state_at H.state host.new W.contents output.new F.contents faults.new self.new.worst) result }
+            (run_state_at W.contents F.contents outputs.old (H.state host.old) self.old.worst)
+            (run_state_at W.contents F.contents outputs.new (H.state host.new) self.new.worst) result }
     {
         let verdict = self.serve_unread(name.shown, Some(name.reason), host, task)?;
-        self.report_result(verdict, output, faults)?;
+        self.report_result(verdict, outputs)?;
         Ok(())
     }
 
@@ -208,21 +168,18 @@ impl Batch {
         names: &[String],
         host: &mut H,
         task: &mut C,
-        output: &mut OutputStream<'_, W>,
-        faults: &mut OutputStream<'_, F>,
-    ) -> Result<(), RunFault>
-        ensures output { output.new.writer.ghost_name ≡ output.old.writer.ghost_name }
-        ensures faults { faults.new.writer.ghost_name ≡ faults.old.writer.ghost_name }
+        outputs: &mut Outputs<'_, W, F>,
+    ) -> Result<(), StreamFault>
+        ensures same { SameWriters outputs.old outputs.new }
         ensures options { C.options task.new ≡ C.options task.old }
-        ensures delivered { output.old.is_delivered ≡ true → OnOk result (output.new.is_delivered ≡ true) }
-        ensures unfailed { OnOk result (output.new.has_failed ≡ output.old.has_failed) }
-        ensures silent { KeepsQuiet (C.effects (C.options task.old)) → self.new.worst ≡ Verdict.Clean → (self.old.worst ≡ Verdict.Clean) × (faults.new ≡ faults.old) }
+        ensures delivered { OnOk result (StaysDelivered outputs.old.output outputs.new.output) }
+        ensures silent { KeepsQuiet (C.effects (C.options task.old)) → self.new.worst ≡ Verdict.Clean → (self.old.worst ≡ Verdict.Clean) × (outputs.new.faults ≡ outputs.old.faults) }
         ensures answered { Runs (C.effects (C.options task.old)) (map (λ name. File (string_bytes name)) names.now)
-            (run_state_at H.state host.old W.contents output.old F.contents faults.old self.old.worst)
-            (run_state_at H.state host.new W.contents output.new F.contents faults.new self.new.worst) result }
+            (run_state_at W.contents F.contents outputs.old (H.state host.old) self.old.worst)
+            (run_state_at W.contents F.contents outputs.new (H.state host.new) self.new.worst) result }
     {
         for name in names {
-            self.answer_file(name.as_str(), host, task, output, faults)?;
+            self.answer_file(name.as_str(), host, task, outputs)?;
         }
         Ok(())
     }
@@ -233,23 +190,19 @@ impl Batch {
     pub fn report_result<W: Write, F: Write>(
         &mut self,
         verdict: Verdict,
-        output: &mut OutputStream<'_, W>,
-        faults: &mut OutputStream<'_, F>,
+        outputs: &mut Outputs<'_, W, F>,
     ) -> Result<(), WriteFault>
-        ensures output { output.new.writer.ghost_name ≡ output.old.writer.ghost_name }
-        ensures faults { faults.new.writer.ghost_name ≡ faults.old.writer.ghost_name }
-        ensures delivered { OnOk result (output.new.is_delivered ≡ true) }
-        ensures unfailed { OnOk result (output.new.has_failed ≡ output.old.has_failed) }
-        ensures silent { self.old.buffer.complaint.items ≡ [] → faults.new ≡ faults.old }
-        ensures stopped { OnErr result (faults.new ≡ faults.old) }
+        ensures same { SameWriters outputs.old outputs.new }
+        ensures delivered { OnOk result (Delivers outputs.old.output outputs.new.output) }
+        ensures silent { self.old.buffer.complaint.items ≡ [] → outputs.new.faults ≡ outputs.old.faults }
+        ensures stopped { OnErr result (outputs.new.faults ≡ outputs.old.faults) }
         ensures reported { ReportsResult (answer_of self.old.buffer.printed.items self.old.buffer.complaint.items verdict)
-            (reported_at W.contents output.old F.contents faults.old self.old.worst)
-            (reported_at W.contents output.new F.contents faults.new self.new.worst) result }
+            (reported_at W.contents F.contents outputs.old self.old.worst)
+            (reported_at W.contents F.contents outputs.new self.new.worst) result }
     {
-        output.write(self.buffer.printed.as_slice())?;
-        output.flush()?;
+        outputs.print(self.buffer.printed.as_slice())?;
         if !self.buffer.complaint.is_empty() {
-            let _ = faults.write(self.buffer.complaint.as_slice());
+            let _ = outputs.faults.write(self.buffer.complaint.as_slice());
         }
         self.worst = self.worst.worse(verdict);
         Ok(())

@@ -12,7 +12,7 @@ mod reason;
 mod report;
 mod task;
 
-pub use batch::{Batch, FILE_BYTES, RunFault};
+pub use batch::{Batch, FILE_BYTES};
 pub use list_batch::ListBatch;
 pub use reason::{Reason, push_known_reason, reason_of, reason_unwritten};
 pub use report::{Report, ReportBuffer, Verdict};

@@ -1,20 +1,23 @@
 //! `ListBatch`: the same for the names of a list, as its bytes come.
-ghost use Rattle.std.specs.Prelude.{◌≡◌, ◌≢◌, Err, [], ◌∷◌, ◌++◌, List, ℕ, true, map, OnOk, IfErr};
+ghost use Rattle.std.specs.Prelude.{◌≡◌, Err, [], List, ℕ, true, OnOk};
 ghost use Rattle.script_text.specs.Input.{IsUnread, IsUnreadable, reading_of};
 ghost use Rattle.program_batch.specs.Answers.{KeepsQuiet};
-ghost use Rattle.program_batch.specs.Names.{requests_of, listed_name, names_in};
-ghost use Rattle.program_batch.specs.Runs.{Runs, RunState, run_state_at};
-ghost use Rattle.program_batch.specs.Lists.{HasCome, RunsStream, StopsInList};
+ghost use Rattle.program_batch.specs.Names.{requests_of};
+ghost use Rattle.program_batch.specs.Runs.{Runs, run_state_at};
+ghost use Rattle.program_batch.specs.Lists.{EndsList, HasComeTo, KeepsList, RunsStream, state_of, view_of};
+ghost use Rattle.program_console.specs.Console.{Delivers, SameWriters, StaysDelivered};
 
-use crate::batch::{Batch, NoFile, RunFault};
+use crate::batch::{Batch, NoFile};
 use crate::open_name::OpenName;
 use crate::report::Verdict;
 use crate::task::FileTask;
 use host_storage::Host;
+use program_console::{Outputs, StreamFault};
+use script_parts::{CutShort, PartHandler, read_parts};
 use script_text::input::InputStream;
 use script_text::output::OutputStream;
-use script_text::script::{READ_BYTES, SCRIPT_BYTES, SCRIPT_READS};
 use std::io::{Read, Write};
+use std::ops::ControlFlow;
 
 /// A batch, and the name of a list that has not come to its end. A separator ends each name; empty
 /// names are skipped.
@@ -54,116 +57,28 @@ impl ListBatch {
         input: &mut InputStream<'_, R>,
         host: &mut H,
         task: &mut C,
-        output: &mut OutputStream<'_, W>,
-        faults: &mut OutputStream<'_, F>,
-    ) -> Result<(), RunFault>
+        outputs: &mut Outputs<'_, W, F>,
+    ) -> Result<(), StreamFault>
         requires unread { IsUnread (reading_of input.old.reads input.old.came input.old.has_failed) }
-        requires delivered { output.old.is_delivered ≡ true }
-        ensures separator { self.new.separator ≡ self.old.separator }
-        ensures unreadable { result ≡ Err RunFault.List → IsUnreadable (reading_of input.new.reads input.new.came input.new.has_failed) }
+        requires delivered { outputs.old.output.is_delivered ≡ true }
+        ensures kept { (self.new.separator ≡ self.old.separator) × (C.options task.new ≡ C.options task.old) }
+        ensures unreadable { result ≡ Err StreamFault.Read → IsUnreadable (reading_of input.new.reads input.new.came input.new.has_failed) }
         ensures input { input.new.reader.ghost_name ≡ input.old.reader.ghost_name }
-        ensures output { output.new.writer.ghost_name ≡ output.old.writer.ghost_name }
-        ensures faults { faults.new.writer.ghost_name ≡ faults.old.writer.ghost_name }
-        ensures options { C.options task.new ≡ C.options task.old }
-        ensures delivered { OnOk result (output.new.is_delivered ≡ true) }
-        ensures unfailed { OnOk result (output.new.has_failed ≡ output.old.has_failed) }
-        ensures silent { KeepsQuiet (C.effects (C.options task.old)) → self.new.batch.worst ≡ Verdict.Clean → (self.old.batch.worst ≡ Verdict.Clean) × (faults.new ≡ faults.old) }
+        ensures same { SameWriters outputs.old outputs.new }
+        ensures delivered { OnOk result (Delivers outputs.old.output outputs.new.output) }
+        ensures silent { KeepsQuiet (C.effects (C.options task.old)) → self.new.batch.worst ≡ Verdict.Clean → (self.old.batch.worst ≡ Verdict.Clean) × (outputs.new.faults ≡ outputs.old.faults) }
         ensures answered { self.old.name ≡ [] → RunsStream (C.effects (C.options task.old)) self.old.separator (R.remaining input.old.reader.now) (R.remaining input.new.reader.now) input.new.has_failed
-            (run_state_at H.state host.old W.contents output.old F.contents faults.old self.old.batch.worst)
-            (run_state_at H.state host.new W.contents output.new F.contents faults.new self.new.batch.worst) result }
+            (run_state_at W.contents F.contents outputs.old (H.state host.old) self.old.batch.worst)
+            (run_state_at W.contents F.contents outputs.new (H.state host.new) self.new.batch.worst) result }
     {
-        let mut left = SCRIPT_BYTES;
-        let mut buffer = [0; READ_BYTES];
-        for _ in 0..SCRIPT_READS {
-            let count = match input.read_after(output, &mut buffer) {
-                Ok(0) => return self.end(host, task, output, faults),
-                Ok(count) => count,
-                Err(_) => return Err(RunFault::List),
-            };
-            if count > left {
-                return Err(RunFault::List);
-            }
-            left -= count;
-            self.take(&buffer[..count], host, task, output, faults)?;
-        }
-        Err(RunFault::List)
-    }
-
-    /// Takes the next bytes of the list, and processes the files whose names end in them.
-    fn take<H: Host, C: FileTask, W: Write, F: Write>(
-        &mut self,
-        bytes: &[u8],
-        host: &mut H,
-        task: &mut C,
-        output: &mut OutputStream<'_, W>,
-        faults: &mut OutputStream<'_, F>,
-    ) -> Result<(), RunFault>
-        ensures separator { self.new.separator ≡ self.old.separator }
-        ensures never { result ≢ Err RunFault.List }
-        ensures output { output.new.writer.ghost_name ≡ output.old.writer.ghost_name }
-        ensures faults { faults.new.writer.ghost_name ≡ faults.old.writer.ghost_name }
-        ensures options { C.options task.new ≡ C.options task.old }
-        ensures delivered { output.old.is_delivered ≡ true → OnOk result (output.new.is_delivered ≡ true) }
-        ensures unfailed { OnOk result (output.new.has_failed ≡ output.old.has_failed) }
-        ensures silent { KeepsQuiet (C.effects (C.options task.old)) → self.new.batch.worst ≡ Verdict.Clean → (self.old.batch.worst ≡ Verdict.Clean) × (faults.new ≡ faults.old) }
-        ensures came { (first : RunState) (before : List ℕ)
-            → HasCome (C.effects (C.options task.old)) self.old.separator first
-            (run_state_at H.state host.old W.contents output.old F.contents faults.old self.old.batch.worst)
-            self.old.name before
-            → OnOk result (HasCome (C.effects (C.options task.old)) self.old.separator first
-            (run_state_at H.state host.new W.contents output.new F.contents faults.new self.new.batch.worst)
-            self.new.name (before ++ bytes.now)) }
-        ensures stopped { (first : RunState) (before : List ℕ)
-            → HasCome (C.effects (C.options task.old)) self.old.separator first
-            (run_state_at H.state host.old W.contents output.old F.contents faults.old self.old.batch.worst)
-            self.old.name before
-            → IfErr result (λ fault. (more : List ℕ) → StopsInList (C.effects (C.options task.old)) self.old.separator ((before ++ bytes.now) ++ more) fault first
-            (run_state_at H.state host.new W.contents output.new F.contents faults.new self.new.batch.worst)) }
-    {
-        for byte in bytes {
-            self.take_byte(*byte, host, task, output, faults)?;
-        }
-        Ok(())
-    }
-
-    /// Takes the next byte of the list, and processes the file whose name it ends.
-    fn take_byte<H: Host, C: FileTask, W: Write, F: Write>(
-        &mut self,
-        byte: u8,
-        host: &mut H,
-        task: &mut C,
-        output: &mut OutputStream<'_, W>,
-        faults: &mut OutputStream<'_, F>,
-    ) -> Result<(), RunFault>
-        ensures separator { self.new.separator ≡ self.old.separator }
-        ensures never { result ≢ Err RunFault.List }
-        ensures output { output.new.writer.ghost_name ≡ output.old.writer.ghost_name }
-        ensures faults { faults.new.writer.ghost_name ≡ faults.old.writer.ghost_name }
-        ensures options { C.options task.new ≡ C.options task.old }
-        ensures delivered { output.old.is_delivered ≡ true → OnOk result (output.new.is_delivered ≡ true) }
-        ensures unfailed { OnOk result (output.new.has_failed ≡ output.old.has_failed) }
-        ensures silent { KeepsQuiet (C.effects (C.options task.old)) → self.new.batch.worst ≡ Verdict.Clean → (self.old.batch.worst ≡ Verdict.Clean) × (faults.new ≡ faults.old) }
-        ensures came { (first : RunState) (before : List ℕ)
-            → HasCome (C.effects (C.options task.old)) self.old.separator first
-            (run_state_at H.state host.old W.contents output.old F.contents faults.old self.old.batch.worst)
-            self.old.name before
-            → OnOk result (HasCome (C.effects (C.options task.old)) self.old.separator first
-            (run_state_at H.state host.new W.contents output.new F.contents faults.new self.new.batch.worst)
-            self.new.name (before ++ byte ∷ [])) }
-        ensures stopped { (first : RunState) (before : List ℕ)
-            → HasCome (C.effects (C.options task.old)) self.old.separator first
-            (run_state_at H.state host.old W.contents output.old F.contents faults.old self.old.batch.worst)
-            self.old.name before
-            → IfErr result (λ fault. (more : List ℕ) → StopsInList (C.effects (C.options task.old)) self.old.separator ((before ++ byte ∷ []) ++ more) fault first
-            (run_state_at H.state host.new W.contents output.new F.contents faults.new self.new.batch.worst)) }
-    {
-        if byte != self.separator {
-            self.name.push(byte);
-            return Ok(());
-        }
-        self.end(host, task, output, faults)?;
         self.name.clear();
-        Ok(())
+        let mut run = ListRun {
+            list: self,
+            host,
+            task,
+            outputs,
+        };
+        run.read(input)
     }
 
     /// Processes the file whose name is ended, if the name has a byte.
@@ -171,26 +86,21 @@ impl ListBatch {
         &mut self,
         host: &mut H,
         task: &mut C,
-        output: &mut OutputStream<'_, W>,
-        faults: &mut OutputStream<'_, F>,
-    ) -> Result<(), RunFault>
-        ensures separator { self.new.separator ≡ self.old.separator }
-        ensures never { result ≢ Err RunFault.List }
-        ensures output { output.new.writer.ghost_name ≡ output.old.writer.ghost_name }
-        ensures faults { faults.new.writer.ghost_name ≡ faults.old.writer.ghost_name }
-        ensures options { C.options task.new ≡ C.options task.old }
-        ensures delivered { output.old.is_delivered ≡ true → OnOk result (output.new.is_delivered ≡ true) }
-        ensures unfailed { OnOk result (output.new.has_failed ≡ output.old.has_failed) }
-        ensures silent { KeepsQuiet (C.effects (C.options task.old)) → self.new.batch.worst ≡ Verdict.Clean → (self.old.batch.worst ≡ Verdict.Clean) × (faults.new ≡ faults.old) }
+        outputs: &mut Outputs<'_, W, F>,
+    ) -> Result<(), StreamFault>
+        ensures kept { (self.new.separator ≡ self.old.separator) × (C.options task.new ≡ C.options task.old) }
+        ensures same { SameWriters outputs.old outputs.new }
+        ensures delivered { OnOk result (StaysDelivered outputs.old.output outputs.new.output) }
+        ensures silent { KeepsQuiet (C.effects (C.options task.old)) → self.new.batch.worst ≡ Verdict.Clean → (self.old.batch.worst ≡ Verdict.Clean) × (outputs.new.faults ≡ outputs.old.faults) }
         ensures answered { Runs (C.effects (C.options task.old)) (requests_of self.old.name)
-            (run_state_at H.state host.old W.contents output.old F.contents faults.old self.old.batch.worst)
-            (run_state_at H.state host.new W.contents output.new F.contents faults.new self.new.batch.worst) result }
+            (run_state_at W.contents F.contents outputs.old (H.state host.old) self.old.batch.worst)
+            (run_state_at W.contents F.contents outputs.new (H.state host.new) self.new.batch.worst) result }
     {
         if !self.name.is_name() {
             return Ok(());
         }
         match self.name.file_name() {
-            Some(name) => self.batch.answer_file(name, host, task, output, faults),
+            Some(name) => self.batch.answer_file(name, host, task, outputs),
             None => {
                 let reason = self.name.reason();
                 self.name.shorten();
@@ -198,8 +108,90 @@ impl ListBatch {
                     shown: self.name.as_bytes(),
                     reason,
                 };
-                self.batch.answer_no_file(name, host, task, output, faults)
+                self.batch.answer_no_file(name, host, task, outputs)
             }
         }
+    }
+}
+
+/// A run over the names of a list, and what it was lent.
+#[derive(Drop)]
+struct ListRun<'l, 'h, 'c, 'o, 's, H, C, W: Write, F: Write> {
+    list: &'l mut ListBatch,
+    host: &'h mut H,
+    task: &'c mut C,
+    outputs: &'o mut Outputs<'s, W, F>,
+}
+
+impl<'l, 'h, 'c, 'o, 's, H: Host, C: FileTask, W: Write, F: Write> ListRun<
+    'l,
+    'h,
+    'c,
+    'o,
+    's,
+    H,
+    C,
+    W,
+    F,
+> {
+    /// Processes the files that an input names.
+    fn read<R: Read>(&mut self, input: &mut InputStream<'_, R>) -> Result<(), StreamFault>
+        requires unread { IsUnread (reading_of input.old.reads input.old.came input.old.has_failed) }
+        requires begun { HasComeTo (view_of C.options C.effects H.state W.contents F.contents) self.old self.old [] [] }
+        ensures input { input.new.reader.ghost_name ≡ input.old.reader.ghost_name }
+        ensures unreadable { result ≡ Err StreamFault.Read → IsUnreadable (reading_of input.new.reads input.new.came input.new.has_failed) }
+        ensures kept { KeepsList (view_of C.options C.effects H.state W.contents F.contents) self.old self.new }
+        ensures delivered { OnOk result (Delivers self.old.outputs.now.output self.new.outputs.now.output) }
+        ensures answered { RunsStream (C.effects (C.options self.old.task.now)) self.old.list.now.separator (R.remaining input.old.reader.now) (R.remaining input.new.reader.now) input.new.has_failed
+            (state_of (view_of C.options C.effects H.state W.contents F.contents) self.old) (state_of (view_of C.options C.effects H.state W.contents F.contents) self.new) result }
+    {
+        let separator = self.list.separator;
+        match read_parts(input, separator, self) {
+            Ok(ended) => ended,
+            Err(CutShort) => Err(StreamFault::Read),
+        }
+    }
+}
+
+impl<'l, 'h, 'c, 'o, 's, H: Host, C: FileTask, W: Write, F: Write> PartHandler
+    for ListRun<'l, 'h, 'c, 'o, 's, H, C, W, F> {
+    type End = Result<(), StreamFault>;
+
+    type Writer = W;
+
+    ghost separator = { λ run. run.list.now.separator };
+
+    ghost count = { λ run. 0 };
+
+    ghost has_come = { HasComeTo (view_of C.options C.effects H.state W.contents F.contents) };
+
+    ghost has_ended = { EndsList (view_of C.options C.effects H.state W.contents F.contents) };
+
+    ghost is_delivered = { λ run. run.outputs.now.output.is_delivered ≡ true };
+
+    fn prepare(&mut self) -> ControlFlow<Result<(), StreamFault>> {
+        ControlFlow::Continue(())
+    }
+
+    fn output(&self) -> &OutputStream<'_, W> {
+        &self.outputs.output
+    }
+
+    fn push(&mut self, bytes: &[u8]) {
+        self.list.name.push(bytes);
+    }
+
+    fn end_part(&mut self) -> ControlFlow<Result<(), StreamFault>> {
+        match self.list.end(self.host, self.task, self.outputs) {
+            Ok(()) => {
+                self.list.name.clear();
+                ControlFlow::Continue(())
+            }
+            Err(fault) => ControlFlow::Break(Err(fault)),
+        }
+    }
+
+    fn end_input(&mut self) -> Result<(), StreamFault> {
+        self.list.end(self.host, self.task, self.outputs)
     }
 }

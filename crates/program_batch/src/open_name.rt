@@ -48,13 +48,14 @@ impl OpenName {
         self.bytes.clear();
     }
 
-    /// Takes the next byte of the name.
-    pub(crate) fn push(&mut self, byte: u8)
-        ensures { self.new ≡ take 4097 (self.old ++ byte ∷ []) }
+    /// Takes the next bytes of the name.
+    pub(crate) fn push(&mut self, bytes: &[u8])
+        ensures { self.new ≡ take 4097 (self.old ++ bytes.now) }
     {
-        if self.bytes.len() < KEPT_BYTES {
-            self.bytes.push(byte);
-        }
+        let room = KEPT_BYTES - self.bytes.len();
+        let _ = self
+            .bytes
+            .try_extend_from_slice(&bytes[..bytes.len().min(room)]);
     }
 
     /// Whether a byte has come.

@@ -11,6 +11,8 @@ use Rattle.d64_undo.specs.declared.resume_fault.ResumeFault.{ResumeFault}
 use Rattle.d64_undo.specs.declared.resume_fault.ResumeFault.TheVariants as resumes
 use Rattle.script_run.specs.declared.runner.ShellFault.{ShellFault}
 use Rattle.script_run.specs.declared.runner.ShellFault.TheVariants as runs
+use Rattle.program_console.specs.declared.stream_fault.StreamFault.{StreamFault}
+use Rattle.program_console.specs.declared.stream_fault.StreamFault.TheVariants as streams
 use Rattle.program_exit.specs.declared.program_fault.ProgramFault.{ProgramFault}
 use Rattle.program_exit.specs.declared.program_fault.ProgramFault.TheVariants.{UnreadableWords, WrongLength, UnreadableImage, UnreadableSession, NoSession, Read, Write, Memory}
 
@@ -34,6 +36,12 @@ abbrev pub fault_of_run : ShellFault → ProgramFault
 fault_of_run runs.Read = Read
 fault_of_run runs.Write = Write
 fault_of_run (runs.Memory error) = Memory
+
+-- the fault for a fault of a job's streams
+abbrev pub fault_of_stream : StreamFault → ProgramFault
+fault_of_stream streams.Read = Read
+fault_of_stream streams.Write = Write
+fault_of_stream streams.Memory = Memory
 
 -- the text of a fault, without its number if it has one
 abbrev pub fault_begin : ProgramFault → List ℕ

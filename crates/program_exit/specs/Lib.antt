@@ -1,3 +1,2 @@
-pub mod Outside
 pub mod Faults
 pub mod WordFaults

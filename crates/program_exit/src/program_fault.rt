@@ -1,9 +1,9 @@
 //! `ProgramFault`: what stops the program, and the lines that report it.
 ghost use Rattle.std.specs.Prelude.{◌≡◌, ◌≤◌, ◌+◌, ◌++◌, Bool, false, length};
 ghost use Rattle.arrayvec.specs.ArrayVec.{array_vec_len};
-ghost use Rattle.program_batch.specs.Runs.{account_at};
+ghost use Rattle.program_console.specs.Outside.{account_at};
 ghost use Rattle.script_text.specs.Output.{account_of};
-ghost use Rattle.program_exit.specs.Faults.{Reports, ReportsText, fault_of_file, fault_of_image, fault_of_resume, fault_of_run, fault_text, fault_begin, line_with};
+ghost use Rattle.program_exit.specs.Faults.{Reports, ReportsText, fault_of_file, fault_of_image, fault_of_resume, fault_of_run, fault_of_stream, fault_text, fault_begin, line_with};
 ghost use Rattle.program_exit.specs.declared.program_fault.ProgramFault.TheVariants.{Memory};
 
 use crate::exit_status::NOT_RUN;
@@ -12,6 +12,7 @@ use d64_image::ImageFault;
 use d64_undo::ResumeFault;
 use host_storage::HostFault;
 use itoa::Buffer;
+use program_console::StreamFault;
 use script_run::ShellFault;
 use script_text::output::OutputStream;
 use std::alloc::AllocError;
@@ -181,6 +182,18 @@ impl From<ShellFault> for ProgramFault {
             ShellFault::Read => ProgramFault::Read,
             ShellFault::Write => ProgramFault::Write,
             ShellFault::Memory(_) => ProgramFault::Memory,
+        }
+    }
+}
+
+impl From<StreamFault> for ProgramFault {
+    ghost from_gives = { λ fault reported. reported ≡ fault_of_stream fault };
+
+    fn from(fault: StreamFault) -> ProgramFault {
+        match fault {
+            StreamFault::Read => ProgramFault::Read,
+            StreamFault::Write => ProgramFault::Write,
+            StreamFault::Memory => ProgramFault::Memory,
         }
     }
 }

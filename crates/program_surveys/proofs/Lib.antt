@@ -1,3 +1,4 @@
 pub mod SurveyRuns
 mod ComparisonRuns
 pub mod MergeRuns
+mod RunEnds

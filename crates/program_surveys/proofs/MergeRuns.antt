@@ -2,18 +2,14 @@
 use Rattle.std.proofs.Common.{◌≡◌, ◌<◌, ◌≤◌, ◌+◌, ℕ, List, [], ◌∷◌, Option, Some, None, Result, Ok, Err, inl, inr, length, map, drop, drop-cons, refl, sym, ap, ◌∙◌, subst, suc, arith}
 use Rattle.std.specs.Prelude.{slice_index_or, IfErr, String, string_bytes}
 use Rattle.std.proofs.lemmas.List.{drop_all}
-use Rattle.script_text.specs.Output.{Account}
 use Rattle.host_storage.specs.Files.{HostState}
 use Rattle.program_arguments.specs.declared.jobs.DiffForm.{DiffForm}
 use Rattle.cmd_merge.specs.Setup.{SetupView}
 use Rattle.cmd_merge.specs.Reports.{ReadingsView, with_file}
-use Rattle.program_batch.specs.Runs.{RunState}
 use Rattle.cmd_merge.specs.Finishing.{MayHaveMade}
-use Rattle.program_surveys.specs.Merges.{ReadsFiles, CameSoFar, Merges, EndedMerge}
-use Rattle.program_surveys.specs.declared.difference_job.DifferenceFault.TheVariants.{Memory}
-use Rattle.program_surveys.specs.JobEnds.{ReportsComparison, first_state}
-use Rattle.program_exit.specs.Outside.{Outside}
-use Rattle.program_surveys.specs.declared.difference_job.DifferenceFault.{DifferenceFault}
+use Rattle.program_surveys.specs.Merges.{ReadsFiles, CameSoFar}
+use Rattle.program_console.specs.declared.stream_fault.StreamFault.TheVariants.{Memory}
+use Rattle.program_console.specs.declared.stream_fault.StreamFault.{StreamFault}
 
 -- one file was read, and then the others
 pub reads_next : (form : DiffForm) (name : List ℕ) (names : List (List ℕ)) (old middle new : HostState) (begun between read : ReadingsView)
@@ -46,19 +42,5 @@ pub so_far : (setup : SetupView) (bytes : Option (List ℕ)) (old middle new : H
 so_far setup None old middle new files is = (middle, files, inl is)
 so_far setup (Some bytes) old middle new files is = elim is [ inl same ↦ (middle, files, inl same) | inr made ↦ (middle, files, inr (bytes, made.0, made.1)) ]
 
-pub wants_memory : {A : Type 0} (P : Type 0) (result : Result A DifferenceFault) → result ≡ Err Memory → P → IfErr result (λ fault. (fault ≡ Memory) × P)
-wants_memory P result is holds = subst (λ (r : Result _ DifferenceFault). IfErr r (λ fault. (fault ≡ Memory) × P)) (sym is) (refl, holds)
-
--- a merge that began with nothing amiss has ended as its run has
-pub merge_ended : (setup : SetupView) (old new : Outside) (faults reported : Account) (status : ℕ) (ended : Result (Unit {0}) DifferenceFault) (first last : RunState)
-    → first ≡ first_state old faults → Merges setup first last ended → new.reader ≡ old.reader → new.host ≡ last.host
-    → new.output ≡ last.reported.output → ReportsComparison ended last.reported reported status → EndedMerge setup old new faults reported status
-merge_ended setup old new faults reported status ended first last is ran reader host output reports = record {
-  ended = ended;
-  last = last;
-  merged = subst (λ (s : RunState). Merges setup s last ended) is ran;
-  reader = reader;
-  host = host;
-  output = output;
-  reports = reports;
-}
+pub wants_memory : {A : Type 0} (P : Type 0) (result : Result A StreamFault) → result ≡ Err Memory → P → IfErr result (λ fault. (fault ≡ Memory) × P)
+wants_memory P result is holds = subst (λ (r : Result _ StreamFault). IfErr r (λ fault. (fault ≡ Memory) × P)) (sym is) (refl, holds)

@@ -5,8 +5,8 @@ use Rattle.program_batch.specs.Names.{File}
 use Rattle.program_batch.specs.Answers.{Answer}
 use Rattle.program_batch.specs.Runs.{IsCut, IsFetched, IsReported, SaysWhy, RunState}
 use Rattle.cmd_diff.specs.Differences.{Contents}
-use Rattle.program_surveys.specs.declared.difference_job.DifferenceFault.{DifferenceFault}
-use Rattle.program_surveys.specs.declared.difference_job.DifferenceFault.TheVariants.{Write, Memory}
+use Rattle.program_console.specs.declared.stream_fault.StreamFault.{StreamFault}
+use Rattle.program_console.specs.declared.stream_fault.StreamFault.TheVariants.{Read, Write, Memory}
 
 -- the result for an old file and a new one, by the name of each, and its bytes, or why it cannot be
 -- read
@@ -47,7 +47,8 @@ AreReadSoFar old_name new_name first last =
 
 -- how a comparison ends: both files are read and the result is written, unless the output failed,
 -- or memory ran out and nothing was written
-abbrev pub Compares : {A : Type 0} → PairRule → List ℕ → List ℕ → RunState → RunState → Result A DifferenceFault → Type 0
+abbrev pub Compares : {A : Type 0} → PairRule → List ℕ → List ℕ → RunState → RunState → Result A StreamFault → Type 0
 Compares rule old_name new_name first last (Ok done) = AreCompared rule old_name new_name first last
+Compares rule old_name new_name first last (Err Read) = ⊥
 Compares rule old_name new_name first last (Err Write) = AreCut rule old_name new_name first last
 Compares rule old_name new_name first last (Err Memory) = AreReadSoFar old_name new_name first.host last.host × (last.reported ≡ first.reported)

@@ -1,6 +1,5 @@
 -- How a merge of files ends.
 use Rattle.std.specs.Prelude.{◌≡◌, ◌⊎◌, ℕ, Bool, List, [], ◌∷◌, MatchBool, Option, Result, Ok, Err}
-use Rattle.script_text.specs.Output.{Account}
 use Rattle.host_storage.specs.Files.{HostState}
 use Rattle.host_storage.specs.Folders.{Looks}
 use Rattle.host_storage.specs.declared.host.FolderFault.{FolderFault}
@@ -12,10 +11,10 @@ use Rattle.cmd_merge.specs.Setup.{SetupView}
 use Rattle.cmd_merge.specs.Reports.{ReadingsView, no_readings, with_file, present_answer}
 use Rattle.cmd_merge.specs.Finishing.{Finishes, IsMade}
 use Rattle.program_surveys.specs.Comparisons.{IsReadAs}
-use Rattle.program_surveys.specs.JobEnds.{ReportsComparison, first_state}
-use Rattle.program_surveys.specs.declared.difference_job.DifferenceFault.{DifferenceFault}
-use Rattle.program_surveys.specs.declared.difference_job.DifferenceFault.TheVariants.{Write, Memory}
-use Rattle.program_exit.specs.Outside.{Outside}
+use Rattle.program_surveys.specs.JobEnds.{EndedRun}
+use Rattle.program_console.specs.declared.stream_fault.StreamFault.{StreamFault}
+use Rattle.program_console.specs.declared.stream_fault.StreamFault.TheVariants.{Read, Write, Memory}
+use Rattle.program_console.specs.Outside.{Outside}
 
 -- the files of these names were read, one after another, each added to what was read before
 unfoldable pub ReadsFiles : DiffForm → List (List ℕ) → HostState → ReadingsView → HostState → ReadingsView → Type 0
@@ -45,17 +44,12 @@ CameSoFar setup old new =
 
 -- how a merge ends: its result was written, or the output failed while it was written, or memory
 -- ran out and nothing was written
-abbrev pub Merges : {A : Type 0} → SetupView → RunState → RunState → Result A DifferenceFault → Type 0
+abbrev pub Merges : {A : Type 0} → SetupView → RunState → RunState → Result A StreamFault → Type 0
 Merges setup first last (Ok done) = (answer : Answer) × AnswersMerge setup first.host answer last.host × IsReported answer first.reported last.reported
+Merges setup first last (Err Read) = ⊥
 Merges setup first last (Err Write) = (answer : Answer) × AnswersMerge setup first.host answer last.host × IsCut answer first.reported last.reported
 Merges setup first last (Err Memory) = CameSoFar setup first.host last.host × (last.reported ≡ first.reported)
 
 -- a merge has ended, which read nothing of the input
-pub record EndedMerge (setup : SetupView) (old new : Outside) (faults reported : Account) (status : ℕ) : Type 0 where
-  pub ended : Result (Unit {0}) DifferenceFault
-  pub last : RunState
-  pub merged : Merges setup (first_state old faults) last ended
-  pub reader : new.reader ≡ old.reader
-  pub host : new.host ≡ last.host
-  pub output : new.output ≡ last.reported.output
-  pub reports : ReportsComparison ended last.reported reported status
+abbrev pub EndedMerge : SetupView → Outside → Outside → ℕ → Type 0
+EndedMerge setup old new status = EndedRun (Merges setup) old new status

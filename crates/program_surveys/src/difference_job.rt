@@ -1,54 +1,21 @@
 //! The run of `diff`: the comparison of two files.
-ghost use Rattle.std.specs.Prelude.{◌≡◌, ◌≤◌, ℕ, List, Option, IfErr, IfOk, OnOk, true, false};
-ghost use Rattle.script_text.specs.Input.{Reading};
-ghost use Rattle.program_batch.specs.Runs.{account_at, run_state_at};
+ghost use Rattle.std.specs.Prelude.{◌≡◌, ◌≤◌, IfErr, IfOk, OnOk, false};
+ghost use Rattle.program_batch.specs.Runs.{run_state_at};
 ghost use Rattle.program_batch.specs.declared.report.Verdict.TheVariants.{Clean};
 ghost use Rattle.cmd_diff.specs.Differences.{contents_by, difference_rule};
 ghost use Rattle.program_surveys.specs.Comparisons.{Compares, IsReadAs};
 ghost use Rattle.program_surveys.specs.JobEnds.{EndedComparison};
-ghost use Rattle.program_exit.specs.Outside.{outside_of};
+ghost use Rattle.program_console.specs.Console.{Delivers, IsDelivered, SameStreams, SameWriters};
+ghost use Rattle.program_console.specs.Outside.{outside_at};
 
+use crate::run_end::report_end;
 use cmd_diff::DifferenceReport;
 use host_storage::{Host, HostFault};
 use program_arguments::DiffForm;
 use program_batch::{Batch, FILE_BYTES, Reason, reason_of};
-use program_exit::ProgramFault;
-use script_text::output::{OutputStream, WriteFault};
-use std::alloc::{AllocError, Global};
-use std::io::Write;
-use thiserror::Error;
-
-/// Why a comparison did not come to its end.
-#[derive(Clone, Copy, Debug, PartialEq, Eq, Error)]
-pub(crate) enum DifferenceFault {
-    /// The output takes no more bytes.
-    #[error("write fault")]
-    Write,
-    #[error("out of memory")]
-    Memory,
-}
-
-impl From<AllocError> for DifferenceFault {
-    ghost use Rattle.std.specs.Prelude.{◌≡◌};
-    ghost use Rattle.program_surveys.specs.declared.difference_job.DifferenceFault.TheVariants.{Memory};
-
-    ghost from_gives = { λ _ fault. fault ≡ Memory };
-
-    fn from(_error: AllocError) -> DifferenceFault {
-        DifferenceFault::Memory
-    }
-}
-
-impl From<WriteFault> for DifferenceFault {
-    ghost use Rattle.std.specs.Prelude.{◌≡◌};
-    ghost use Rattle.program_surveys.specs.declared.difference_job.DifferenceFault.TheVariants.{Write};
-
-    ghost from_gives = { λ _ fault. fault ≡ Write };
-
-    fn from(_fault: WriteFault) -> DifferenceFault {
-        DifferenceFault::Write
-    }
-}
+use program_console::{Console, Outputs, StreamFault};
+use std::alloc::Global;
+use std::io::{Read, Write};
 
 /// A comparison of an old file with a new one, by their names.
 #[derive(Drop)]
@@ -77,29 +44,23 @@ impl<'n> DifferenceJob<'n> {
     /// Reads both files, prints what changed, and returns the exit status: 0 if they are the same,
     /// 1 if they differ, and 2 if one of them is not a dump or cannot be read, the output takes no
     /// more bytes, or memory runs out.
-    pub fn run<W: Write, F: Write, H: Host>(
+    pub fn run<R: Read, W: Write, F: Write, H: Host>(
         &self,
-        output: &mut OutputStream<'_, W>,
-        faults: &mut OutputStream<'_, F>,
+        console: &mut Console<'_, R, W, F>,
         host: &mut H,
     ) -> u8
-        requires unfailed { output.old.has_failed ≡ false }
-        ensures output { output.new.writer.ghost_name ≡ output.old.writer.ghost_name }
-        ensures faults { faults.new.writer.ghost_name ≡ faults.old.writer.ghost_name }
+        requires unfailed { console.old.outputs.output.has_failed ≡ false }
+        ensures same { SameStreams console.old console.new }
         ensures status { result ≤ 2 }
-        ensures ended { (reader : Option (List ℕ)) (reading : Reading) → EndedComparison (difference_rule self.now.form) self.now.old.now self.now.new.now
-            (outside_of reader reading (account_at W.contents output.old) (H.state host.old))
-            (outside_of reader reading (account_at W.contents output.new) (H.state host.new))
-            (account_at F.contents faults.old) (account_at F.contents faults.new) result }
-        ensures delivered { result ≡ 0 → (output.new.is_delivered ≡ true) × (output.new.has_failed ≡ false) }
-        ensures silent { result ≡ 0 → faults.new ≡ faults.old }
+        ensures ended { EndedComparison (difference_rule self.now.form) self.now.old.now self.now.new.now
+            (outside_at R.remaining W.contents F.contents console.old (H.state host.old))
+            (outside_at R.remaining W.contents F.contents console.new (H.state host.new)) result }
+        ensures delivered { result ≡ 0 → IsDelivered console.new.outputs.output }
+        ensures silent { result ≡ 0 → console.new.outputs.faults ≡ console.old.outputs.faults }
     {
         let mut batch = Batch::new(self.alloc);
-        match self.compare(&mut batch, output, faults, host) {
-            Ok(()) => batch.worst().exit_status(),
-            Err(DifferenceFault::Write) => ProgramFault::Write.report_on(faults),
-            Err(DifferenceFault::Memory) => ProgramFault::Memory.report_on(faults),
-        }
+        let ended = self.compare(&mut batch, &mut console.outputs, host);
+        report_end(ended, batch.worst(), &mut console.outputs.faults)
     }
 
     /// Reads both files, and prints what changed.
@@ -110,18 +71,15 @@ impl<'n> DifferenceJob<'n> {
     fn compare<W: Write, F: Write, H: Host>(
         &self,
         batch: &mut Batch,
-        output: &mut OutputStream<'_, W>,
-        faults: &mut OutputStream<'_, F>,
+        outputs: &mut Outputs<'_, W, F>,
         host: &mut H,
-    ) -> Result<(), DifferenceFault>
-        ensures output { output.new.writer.ghost_name ≡ output.old.writer.ghost_name }
-        ensures faults { faults.new.writer.ghost_name ≡ faults.old.writer.ghost_name }
-        ensures delivered { OnOk result (output.new.is_delivered ≡ true) }
-        ensures unfailed { OnOk result (output.new.has_failed ≡ output.old.has_failed) }
-        ensures silent { batch.new.worst ≡ Clean → faults.new ≡ faults.old }
+    ) -> Result<(), StreamFault>
+        ensures same { SameWriters outputs.old outputs.new }
+        ensures delivered { OnOk result (Delivers outputs.old.output outputs.new.output) }
+        ensures silent { batch.new.worst ≡ Clean → outputs.new.faults ≡ outputs.old.faults }
         ensures compared { Compares (difference_rule self.now.form) self.now.old.now self.now.new.now
-            (run_state_at H.state host.old W.contents output.old F.contents faults.old batch.old.worst)
-            (run_state_at H.state host.new W.contents output.new F.contents faults.new batch.new.worst) result }
+            (run_state_at W.contents F.contents outputs.old (H.state host.old) batch.old.worst)
+            (run_state_at W.contents F.contents outputs.new (H.state host.new) batch.new.worst) result }
     {
         let old = self.read(self.old, host)?;
         let new = self.read(self.new, host)?;
@@ -133,7 +91,7 @@ impl<'n> DifferenceJob<'n> {
             lent(&new),
             &mut batch.buffer,
         )?;
-        batch.report_result(verdict, output, faults)?;
+        batch.report_result(verdict, outputs)?;
         Ok(())
     }
 
@@ -143,10 +101,10 @@ impl<'n> DifferenceJob<'n> {
         &self,
         name: &str,
         host: &mut H,
-    ) -> Result<Result<Vec<u8>, Option<Reason>>, DifferenceFault>
+    ) -> Result<Result<Vec<u8>, Option<Reason>>, StreamFault>
         ensures read { IfOk result (λ contents. IsReadAs name.now (H.state host.old)
             (contents_by (λ bytes. bytes.items) contents) (H.state host.new)) }
-        ensures memory { IfErr result (λ fault. (fault ≡ DifferenceFault.Memory)
+        ensures memory { IfErr result (λ fault. (fault ≡ StreamFault.Memory)
             × (H.state host.new ≡ H.state host.old)) }
     {
         read_contents(self.alloc, name, host)
@@ -158,15 +116,15 @@ pub(crate) fn read_contents<H: Host>(
     alloc: Global,
     name: &str,
     host: &mut H,
-) -> Result<Result<Vec<u8>, Option<Reason>>, DifferenceFault>
+) -> Result<Result<Vec<u8>, Option<Reason>>, StreamFault>
     ensures read { IfOk result (λ contents. IsReadAs name.now (H.state host.old)
         (contents_by (λ bytes. bytes.items) contents) (H.state host.new)) }
-    ensures memory { IfErr result (λ fault. (fault ≡ DifferenceFault.Memory)
+    ensures memory { IfErr result (λ fault. (fault ≡ StreamFault.Memory)
         × (H.state host.new ≡ H.state host.old)) }
 {
     match host.fetch(alloc, name, FILE_BYTES) {
         Ok(bytes) => Ok(Ok(bytes)),
-        Err(HostFault::Memory(_)) => Err(DifferenceFault::Memory),
+        Err(HostFault::Memory(_)) => Err(StreamFault::Memory),
         Err(fault) => Ok(Err(reason_of(host, name, fault))),
     }
 }

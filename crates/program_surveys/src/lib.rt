@@ -9,6 +9,7 @@
 mod difference_job;
 mod file_names;
 mod merge_job;
+mod run_end;
 mod survey_job;
 
 pub use difference_job::DifferenceJob;

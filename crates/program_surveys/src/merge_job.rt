@@ -1,20 +1,20 @@
 //! The run of `merge`: one file, made of the dumps of several files.
-ghost use Rattle.std.specs.Prelude.{◌≡◌, ◌≤◌, ℕ, List, Option, IfErr, IfOk, OnOk, [], ◌∷◌, map, string_bytes, true, false};
-ghost use Rattle.script_text.specs.Input.{Reading};
+ghost use Rattle.std.specs.Prelude.{◌≡◌, ◌≤◌, IfErr, IfOk, OnOk, [], ◌∷◌, map, string_bytes, false};
 ghost use Rattle.program_batch.specs.Answers.{answer_of};
-ghost use Rattle.program_batch.specs.Runs.{account_at, run_state_at};
+ghost use Rattle.program_batch.specs.Runs.{run_state_at};
 ghost use Rattle.program_batch.specs.declared.report.Verdict.TheVariants.{Clean};
 ghost use Rattle.program_surveys.specs.Merges.{AnswersMerge, CameSoFar, EndedMerge, Merges, ReadsFiles};
-ghost use Rattle.program_exit.specs.Outside.{outside_of};
+ghost use Rattle.program_console.specs.Console.{Delivers, IsDelivered, SameStreams, SameWriters};
+ghost use Rattle.program_console.specs.Outside.{outside_at};
 
-use crate::difference_job::{DifferenceFault, read_contents};
+use crate::difference_job::read_contents;
+use crate::run_end::report_end;
 use cmd_merge::{Readings, Setup, finish, say_present};
 use host_storage::Host;
 use program_batch::{Batch, ReportBuffer, Verdict};
-use program_exit::ProgramFault;
-use script_text::output::OutputStream;
+use program_console::{Console, Outputs, StreamFault};
 use std::alloc::Global;
-use std::io::Write;
+use std::io::{Read, Write};
 
 /// A merge of the dumps of files.
 #[derive(Drop)]
@@ -35,50 +35,41 @@ impl<'n> MergeJob<'n> {
     /// returns the exit status: 1 if a block is lost, taken from the first good copy, or in
     /// conflict; 2 if the file is there already or cannot be made, one of the others is no dump or
     /// cannot be read, the output takes no more bytes, or memory runs out; and else 0.
-    pub fn run<W: Write, F: Write, H: Host>(
+    pub fn run<R: Read, W: Write, F: Write, H: Host>(
         &self,
-        output: &mut OutputStream<'_, W>,
-        faults: &mut OutputStream<'_, F>,
+        console: &mut Console<'_, R, W, F>,
         host: &mut H,
     ) -> u8
-        requires unfailed { output.old.has_failed ≡ false }
-        ensures output { output.new.writer.ghost_name ≡ output.old.writer.ghost_name }
-        ensures faults { faults.new.writer.ghost_name ≡ faults.old.writer.ghost_name }
+        requires unfailed { console.old.outputs.output.has_failed ≡ false }
+        ensures same { SameStreams console.old console.new }
         ensures status { result ≤ 2 }
-        ensures ended { (reader : Option (List ℕ)) (reading : Reading) → EndedMerge self.now.setup.now
-            (outside_of reader reading (account_at W.contents output.old) (H.state host.old))
-            (outside_of reader reading (account_at W.contents output.new) (H.state host.new))
-            (account_at F.contents faults.old) (account_at F.contents faults.new) result }
-        ensures delivered { result ≡ 0 → (output.new.is_delivered ≡ true) × (output.new.has_failed ≡ false) }
-        ensures silent { result ≡ 0 → faults.new ≡ faults.old }
+        ensures ended { EndedMerge self.now.setup.now
+            (outside_at R.remaining W.contents F.contents console.old (H.state host.old))
+            (outside_at R.remaining W.contents F.contents console.new (H.state host.new)) result }
+        ensures delivered { result ≡ 0 → IsDelivered console.new.outputs.output }
+        ensures silent { result ≡ 0 → console.new.outputs.faults ≡ console.old.outputs.faults }
     {
         let mut batch = Batch::new(self.alloc);
-        match self.merge(&mut batch, output, faults, host) {
-            Ok(()) => batch.worst().exit_status(),
-            Err(DifferenceFault::Write) => ProgramFault::Write.report_on(faults),
-            Err(DifferenceFault::Memory) => ProgramFault::Memory.report_on(faults),
-        }
+        let ended = self.merge(&mut batch, &mut console.outputs, host);
+        report_end(ended, batch.worst(), &mut console.outputs.faults)
     }
 
     /// Merges the files, and writes the result.
     fn merge<W: Write, F: Write, H: Host>(
         &self,
         batch: &mut Batch,
-        output: &mut OutputStream<'_, W>,
-        faults: &mut OutputStream<'_, F>,
+        outputs: &mut Outputs<'_, W, F>,
         host: &mut H,
-    ) -> Result<(), DifferenceFault>
-        ensures output { output.new.writer.ghost_name ≡ output.old.writer.ghost_name }
-        ensures faults { faults.new.writer.ghost_name ≡ faults.old.writer.ghost_name }
-        ensures delivered { OnOk result (output.new.is_delivered ≡ true) }
-        ensures unfailed { OnOk result (output.new.has_failed ≡ output.old.has_failed) }
-        ensures silent { batch.new.worst ≡ Clean → faults.new ≡ faults.old }
+    ) -> Result<(), StreamFault>
+        ensures same { SameWriters outputs.old outputs.new }
+        ensures delivered { OnOk result (Delivers outputs.old.output outputs.new.output) }
+        ensures silent { batch.new.worst ≡ Clean → outputs.new.faults ≡ outputs.old.faults }
         ensures merged { Merges self.now.setup.now
-            (run_state_at H.state host.old W.contents output.old F.contents faults.old batch.old.worst)
-            (run_state_at H.state host.new W.contents output.new F.contents faults.new batch.new.worst) result }
+            (run_state_at W.contents F.contents outputs.old (H.state host.old) batch.old.worst)
+            (run_state_at W.contents F.contents outputs.new (H.state host.new) batch.new.worst) result }
     {
         let verdict = self.answer(&mut batch.buffer, host)?;
-        batch.report_result(verdict, output, faults)?;
+        batch.report_result(verdict, outputs)?;
         Ok(())
     }
 
@@ -91,11 +82,11 @@ impl<'n> MergeJob<'n> {
         &self,
         buffer: &mut ReportBuffer,
         host: &mut H,
-    ) -> Result<Verdict, DifferenceFault>
+    ) -> Result<Verdict, StreamFault>
         ensures answered { IfOk result (λ verdict. AnswersMerge self.now.setup.now (H.state host.old)
             (answer_of buffer.new.printed.items buffer.new.complaint.items verdict) (H.state host.new)) }
         ensures quiet { IfOk result (λ verdict. verdict ≡ Clean → buffer.new.complaint.items ≡ []) }
-        ensures memory { IfErr result (λ fault. (fault ≡ DifferenceFault.Memory) × CameSoFar self.now.setup.now (H.state host.old) (H.state host.new)) }
+        ensures memory { IfErr result (λ fault. (fault ≡ StreamFault.Memory) × CameSoFar self.now.setup.now (H.state host.old) (H.state host.new)) }
     {
         let setup = self.setup;
         if host.is_there(&setup.out) {
@@ -114,10 +105,10 @@ impl<'n> MergeJob<'n> {
         names: &[String],
         readings: &mut Readings,
         host: &mut H,
-    ) -> Result<(), DifferenceFault>
+    ) -> Result<(), StreamFault>
         ensures read { OnOk result (ReadsFiles self.now.setup.now.form (map string_bytes names.now) (H.state host.old) readings.old (H.state host.new) readings.new) }
         ensures files { (H.state host.new).files ≡ (H.state host.old).files }
-        ensures memory { IfErr result (λ fault. fault ≡ DifferenceFault.Memory) }
+        ensures memory { IfErr result (λ fault. fault ≡ StreamFault.Memory) }
     {
         for name in names {
             self.read_one(name, readings, host)?;
@@ -131,10 +122,10 @@ impl<'n> MergeJob<'n> {
         name: &String,
         readings: &mut Readings,
         host: &mut H,
-    ) -> Result<(), DifferenceFault>
+    ) -> Result<(), StreamFault>
         ensures read { OnOk result (ReadsFiles self.now.setup.now.form (string_bytes name.now ∷ []) (H.state host.old) readings.old (H.state host.new) readings.new) }
         ensures files { (H.state host.new).files ≡ (H.state host.old).files }
-        ensures memory { IfErr result (λ fault. fault ≡ DifferenceFault.Memory) }
+        ensures memory { IfErr result (λ fault. fault ≡ StreamFault.Memory) }
     {
         let setup = self.setup;
         let contents = read_contents(self.alloc, name, host)?;

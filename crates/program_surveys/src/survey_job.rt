@@ -1,24 +1,25 @@
 //! The run of a survey: a report on each file that the arguments or a list name.
-ghost use Rattle.std.specs.Prelude.{◌≡◌, ◌≤◌, ℕ, List, [], Err, IfErr, IfOk, Ok, OnOk, Result, true, false};
+ghost use Rattle.std.specs.Prelude.{◌≡◌, ◌≤◌, ℕ, List, [], Err, IfErr, IfOk, Ok, OnOk, Result, true};
 ghost use Rattle.host_storage.specs.declared.host.HostFault.{HostFault};
-ghost use Rattle.script_text.specs.Input.{IsUnread, reading_of};
 ghost use Rattle.program_batch.specs.Answers.{KeepsQuiet, Rule, by_rule};
 ghost use Rattle.program_batch.specs.Reasons.{with_known_reason};
 ghost use Rattle.out_messages.specs.FaultLines.{unread_line};
-ghost use Rattle.program_batch.specs.Runs.{account_at, run_state_at};
+ghost use Rattle.program_batch.specs.Runs.{run_state_at};
 ghost use Rattle.program_surveys.specs.JobEnds.{EndedSurvey, IsListReason, ReportsFault};
-ghost use Rattle.program_exit.specs.Outside.{outside_at};
+ghost use Rattle.program_console.specs.Console.{Delivers, IsDelivered, IsFresh, SameStreams, SameWriters};
+ghost use Rattle.program_console.specs.Outside.{account_at, outside_at};
 ghost use Rattle.program_surveys.specs.SurveyFiles.{files_in, list_name};
 ghost use Rattle.program_surveys.specs.Surveys.{IsOpened, RunsListFile, Says, Surveys, fault_of_list};
-ghost use Rattle.program_batch.specs.declared.batch.RunFault.{RunFault};
+ghost use Rattle.program_console.specs.declared.stream_fault.StreamFault.{StreamFault};
 ghost use Rattle.program_batch.specs.declared.report.Verdict.{Verdict};
 
 use crate::file_names::FileNames;
 use host_storage::{Host, HostFault};
 use out_messages::unread_line;
 use program_batch::{
-    Batch, FileTask, ListBatch, Reason, Report, RunFault, Verdict, push_known_reason, reason_of,
+    Batch, FileTask, ListBatch, Reason, Report, Verdict, push_known_reason, reason_of,
 };
+use program_console::{Console, Outputs, StreamFault};
 use program_exit::{NOT_RUN, ProgramFault};
 use script_text::input::InputStream;
 use script_text::output::OutputStream;
@@ -26,17 +27,17 @@ use std::alloc::{AllocError, Global};
 use std::io::{Read, Write};
 
 /// Returns the fault of a run for a list that cannot be opened.
-fn fault_of_list(fault: HostFault) -> RunFault
+fn fault_of_list(fault: HostFault) -> StreamFault
     ensures { result ≡ fault_of_list fault }
 {
     match fault {
-        HostFault::Memory(_) => RunFault::Memory,
-        HostFault::Missing | HostFault::Device | HostFault::TooLong => RunFault::List,
+        HostFault::Memory(_) => StreamFault::Memory,
+        HostFault::Missing | HostFault::Device | HostFault::TooLong => StreamFault::Read,
     }
 }
 
 /// Opens a list of the host.
-fn open_list<H: Host>(list: &str, host: &mut H) -> Result<H::File, RunFault>
+fn open_list<H: Host>(list: &str, host: &mut H) -> Result<H::File, StreamFault>
     ensures opened { IfOk result (λ file. IsOpened list.now (H.state host.old)
         (Ok (H.File.remaining file)) (H.state host.new)) }
     ensures refused { IfErr result (λ reported. (fault : HostFault) × IsOpened list.now (H.state host.old)
@@ -64,31 +65,28 @@ fn answer_list_file<H: Host, C: FileTask, W: Write, F: Write>(
     batch: &mut ListBatch,
     host: &mut H,
     task: &mut C,
-    output: &mut OutputStream<'_, W>,
-    faults: &mut OutputStream<'_, F>,
-) -> Result<(), RunFault>
-    requires delivered { output.old.is_delivered ≡ true }
-    ensures output { output.new.writer.ghost_name ≡ output.old.writer.ghost_name }
-    ensures faults { faults.new.writer.ghost_name ≡ faults.old.writer.ghost_name }
-    ensures delivered { OnOk result (output.new.is_delivered ≡ true) }
-    ensures unfailed { OnOk result (output.new.has_failed ≡ output.old.has_failed) }
-    ensures silent { KeepsQuiet (C.effects (C.options task.old)) → batch.new.batch.worst ≡ Verdict.Clean → (batch.old.batch.worst ≡ Verdict.Clean) × (faults.new ≡ faults.old) }
+    outputs: &mut Outputs<'_, W, F>,
+) -> Result<(), StreamFault>
+    requires delivered { outputs.old.output.is_delivered ≡ true }
+    ensures same { SameWriters outputs.old outputs.new }
+    ensures delivered { OnOk result (Delivers outputs.old.output outputs.new.output) }
+    ensures silent { KeepsQuiet (C.effects (C.options task.old)) → batch.new.batch.worst ≡ Verdict.Clean → (batch.old.batch.worst ≡ Verdict.Clean) × (outputs.new.faults ≡ outputs.old.faults) }
     ensures answered { batch.old.name ≡ [] → RunsListFile (C.effects (C.options task.old)) batch.old.separator list.now
-        (run_state_at H.state host.old W.contents output.old F.contents faults.old batch.old.batch.worst)
-        (run_state_at H.state host.new W.contents output.new F.contents faults.new batch.new.batch.worst) result }
+        (run_state_at W.contents F.contents outputs.old (H.state host.old) batch.old.batch.worst)
+        (run_state_at W.contents F.contents outputs.new (H.state host.new) batch.new.batch.worst) result }
 {
     let mut file = open_list(list, host)?;
     let mut list = InputStream::new(&mut file);
-    match batch.answer_stream(&mut list, host, task, output, faults) {
+    match batch.answer_stream(&mut list, host, task, outputs) {
         Ok(()) => return Ok(()),
-        Err(RunFault::List) => {}
-        Err(RunFault::Write) => return Err(RunFault::Write),
-        Err(RunFault::Memory) => return Err(RunFault::Memory),
+        Err(StreamFault::Read) => {}
+        Err(StreamFault::Write) => return Err(StreamFault::Write),
+        Err(StreamFault::Memory) => return Err(StreamFault::Memory),
     }
     if list.has_failed() {
         host.count_failed_read();
     }
-    Err(RunFault::List)
+    Err(StreamFault::Read)
 }
 
 /// Appends the line of a list that cannot be read to an empty text, with the reason if one is
@@ -125,27 +123,20 @@ impl<'n> SurveyJob<'n> {
     pub fn run<R: Read, W: Write, F: Write, H: Host, P: Report + Drop>(
         &self,
         report: Result<P, AllocError>,
-        input: &mut InputStream<'_, R>,
-        output: &mut OutputStream<'_, W>,
-        faults: &mut OutputStream<'_, F>,
+        console: &mut Console<'_, R, W, F>,
         host: &mut H,
     ) -> u8
-        requires unread { IsUnread (reading_of input.old.reads input.old.came input.old.has_failed) }
-        requires unfailed { output.old.has_failed ≡ false }
-        requires delivered { output.old.is_delivered ≡ true }
-        ensures input { input.new.reader.ghost_name ≡ input.old.reader.ghost_name }
-        ensures output { output.new.writer.ghost_name ≡ output.old.writer.ghost_name }
-        ensures faults { faults.new.writer.ghost_name ≡ faults.old.writer.ghost_name }
+        requires fresh { IsFresh console.old }
+        ensures same { SameStreams console.old console.new }
         ensures status { result ≤ 2 }
-        ensures delivered { result ≡ 0 → (output.new.is_delivered ≡ true) × (output.new.has_failed ≡ false) }
-        ensures silent { result ≡ 0 → faults.new ≡ faults.old }
+        ensures delivered { result ≡ 0 → IsDelivered console.new.outputs.output }
+        ensures silent { result ≡ 0 → console.new.outputs.faults ≡ console.old.outputs.faults }
         ensures ended { (rule : Rule) (heading : List ℕ) → IfOk report (λ report. (P.rule report ≡ rule) × (P.heading report ≡ heading))
             → EndedSurvey (by_rule rule) heading (files_in self.now.names)
-            (outside_at R.remaining input.old W.contents output.old H.state host.old)
-            (outside_at R.remaining input.new W.contents output.new H.state host.new)
-            (account_at F.contents faults.old) (account_at F.contents faults.new) result }
+            (outside_at R.remaining W.contents F.contents console.old (H.state host.old))
+            (outside_at R.remaining W.contents F.contents console.new (H.state host.new)) result }
     {
-        self.run_by(report, input, output, faults, host)
+        self.run_by(report, console, host)
     }
 
     /// Processes the files by a task, unless memory ran out while it was made, and returns the exit
@@ -154,33 +145,26 @@ impl<'n> SurveyJob<'n> {
     pub fn run_by<R: Read, W: Write, F: Write, H: Host, C: FileTask + Drop>(
         &self,
         task: Result<C, AllocError>,
-        input: &mut InputStream<'_, R>,
-        output: &mut OutputStream<'_, W>,
-        faults: &mut OutputStream<'_, F>,
+        console: &mut Console<'_, R, W, F>,
         host: &mut H,
     ) -> u8
-        requires unread { IsUnread (reading_of input.old.reads input.old.came input.old.has_failed) }
-        requires unfailed { output.old.has_failed ≡ false }
-        requires delivered { output.old.is_delivered ≡ true }
-        ensures input { input.new.reader.ghost_name ≡ input.old.reader.ghost_name }
-        ensures output { output.new.writer.ghost_name ≡ output.old.writer.ghost_name }
-        ensures faults { faults.new.writer.ghost_name ≡ faults.old.writer.ghost_name }
+        requires fresh { IsFresh console.old }
+        ensures same { SameStreams console.old console.new }
         ensures status { result ≤ 2 }
-        ensures delivered { result ≡ 0 → (output.new.is_delivered ≡ true) × (output.new.has_failed ≡ false) }
-        ensures silent { IfOk task (λ task. KeepsQuiet (C.effects (C.options task))) → result ≡ 0 → faults.new ≡ faults.old }
+        ensures delivered { result ≡ 0 → IsDelivered console.new.outputs.output }
+        ensures silent { IfOk task (λ task. KeepsQuiet (C.effects (C.options task))) → result ≡ 0 → console.new.outputs.faults ≡ console.old.outputs.faults }
         ensures ended { (options : C.Options) (heading : List ℕ) → IfOk task (λ task. (C.options task ≡ options) × (C.heading task ≡ heading))
             → EndedSurvey (C.effects options) heading (files_in self.now.names)
-            (outside_at R.remaining input.old W.contents output.old H.state host.old)
-            (outside_at R.remaining input.new W.contents output.new H.state host.new)
-            (account_at F.contents faults.old) (account_at F.contents faults.new) result }
+            (outside_at R.remaining W.contents F.contents console.old (H.state host.old))
+            (outside_at R.remaining W.contents F.contents console.new (H.state host.new)) result }
     {
         let mut task = match task {
             Ok(task) => task,
-            Err(_) => return ProgramFault::Memory.report_on(faults),
+            Err(_) => return ProgramFault::Memory.report_on(&mut console.outputs.faults),
         };
-        match self.answer(&mut task, input, output, faults, host) {
+        match self.answer(&mut task, console, host) {
             Ok(verdict) => verdict.exit_status(),
-            Err(fault) => self.report_fault(fault, host, faults),
+            Err(fault) => self.report_fault(fault, host, &mut console.outputs.faults),
         }
     }
 
@@ -188,39 +172,33 @@ impl<'n> SurveyJob<'n> {
     fn answer<R: Read, W: Write, F: Write, H: Host, C: FileTask>(
         &self,
         task: &mut C,
-        input: &mut InputStream<'_, R>,
-        output: &mut OutputStream<'_, W>,
-        faults: &mut OutputStream<'_, F>,
+        console: &mut Console<'_, R, W, F>,
         host: &mut H,
-    ) -> Result<Verdict, RunFault>
-        requires unread { IsUnread (reading_of input.old.reads input.old.came input.old.has_failed) }
-        requires unfailed { output.old.has_failed ≡ false }
-        requires delivered { output.old.is_delivered ≡ true }
-        ensures input { input.new.reader.ghost_name ≡ input.old.reader.ghost_name }
-        ensures output { output.new.writer.ghost_name ≡ output.old.writer.ghost_name }
-        ensures faults { faults.new.writer.ghost_name ≡ faults.old.writer.ghost_name }
-        ensures delivered { OnOk result ((output.new.is_delivered ≡ true) × (output.new.has_failed ≡ false)) }
-        ensures silent { KeepsQuiet (C.effects (C.options task.old)) → result ≡ Ok Verdict.Clean → faults.new ≡ faults.old }
-        ensures surveyed { (worst : Verdict) × (ended : Result (Unit {0}) RunFault) × Surveys (C.effects (C.options task.old)) (C.heading task.old) (files_in self.now.names) (R.remaining input.old.reader.now) (R.remaining input.new.reader.now) input.new.has_failed
-            (run_state_at H.state host.old W.contents output.old F.contents faults.old Verdict.Clean)
-            (run_state_at H.state host.new W.contents output.new F.contents faults.new worst) ended × Says worst ended result }
+    ) -> Result<Verdict, StreamFault>
+        requires fresh { IsFresh console.old }
+        ensures same { SameStreams console.old console.new }
+        ensures delivered { OnOk result (IsDelivered console.new.outputs.output) }
+        ensures silent { KeepsQuiet (C.effects (C.options task.old)) → result ≡ Ok Verdict.Clean → console.new.outputs.faults ≡ console.old.outputs.faults }
+        ensures surveyed { (worst : Verdict) × (ended : Result (Unit {0}) StreamFault) × Surveys (C.effects (C.options task.old)) (C.heading task.old) (files_in self.now.names) (R.remaining console.old.input.reader.now) (R.remaining console.new.input.reader.now) console.new.input.has_failed
+            (run_state_at W.contents F.contents console.old.outputs (H.state host.old) Verdict.Clean)
+            (run_state_at W.contents F.contents console.new.outputs (H.state host.new) worst) ended × Says worst ended result }
     {
         let mut batch = Batch::new(self.alloc);
-        batch.begin(task, output)?;
+        batch.begin(task, &mut console.outputs)?;
         match self.names {
             FileNames::Given(names) => {
-                batch.answer_files(names, host, task, output, faults)?;
+                batch.answer_files(names, host, task, &mut console.outputs)?;
                 Ok(batch.worst())
             }
             FileNames::Listed { list, separator } => {
                 let mut batch = ListBatch::new(batch, separator);
                 match list {
                     "-" => {
-                        batch.answer_stream(input, host, task, output, faults)?;
+                        batch.answer_stream(&mut console.input, host, task, &mut console.outputs)?;
                         Ok(batch.worst())
                     }
                     list => {
-                        answer_list_file(list, &mut batch, host, task, output, faults)?;
+                        answer_list_file(list, &mut batch, host, task, &mut console.outputs)?;
                         Ok(batch.worst())
                     }
                 }
@@ -232,7 +210,7 @@ impl<'n> SurveyJob<'n> {
     /// line is dropped.
     fn report_fault<H: Host, F: Write>(
         &self,
-        fault: RunFault,
+        fault: StreamFault,
         host: &H,
         faults: &mut OutputStream<'_, F>,
     ) -> u8
@@ -241,9 +219,9 @@ impl<'n> SurveyJob<'n> {
         ensures reported { ReportsFault (H.state host.now).files (list_name (files_in self.now.names)) fault (account_at F.contents faults.old) (account_at F.contents faults.new) result }
     {
         match fault {
-            RunFault::List => self.report_list(self.names.list_name(), host, faults),
-            RunFault::Write => ProgramFault::Write.report_on(faults),
-            RunFault::Memory => ProgramFault::Memory.report_on(faults),
+            StreamFault::Read => self.report_list(self.names.list_name(), host, faults),
+            StreamFault::Write => ProgramFault::Write.report_on(faults),
+            StreamFault::Memory => ProgramFault::Memory.report_on(faults),
         }
     }
 
@@ -256,7 +234,7 @@ impl<'n> SurveyJob<'n> {
     ) -> u8
         ensures faults { faults.new.writer.ghost_name ≡ faults.old.writer.ghost_name }
         ensures status { result ≡ 2 }
-        ensures reported { ReportsFault (H.state host.now).files list.now RunFault.List (account_at F.contents faults.old) (account_at F.contents faults.new) result }
+        ensures reported { ReportsFault (H.state host.now).files list.now StreamFault.Read (account_at F.contents faults.old) (account_at F.contents faults.new) result }
     {
         let mut line = Vec::new(self.alloc);
         let reason = reason_of_list(list, host);

@@ -4,7 +4,8 @@
 ghost use Rattle.std.specs.Prelude.{◌≡◌, ◌⊎◌, ℕ, List, [], Some, None, IfSome, if◌then◌else◌, ◌++◌, ◌&&◌, ◌||◌, codes, not, false, true};
 ghost use Rattle.host_storage.specs.Files.{HostState};
 ghost use Rattle.script_text.specs.HeldLine.{Says};
-ghost use Rattle.script_text.specs.Output.{Writes, account_of};
+ghost use Rattle.script_text.specs.Output.{Writes};
+ghost use Rattle.program_console.specs.Outside.{account_at};
 ghost use Rattle.script_text.specs.Status.{is_accepted};
 ghost use Rattle.d64_undo.specs.History.{present_image};
 ghost use Rattle.script_hints.specs.Advice.{advice, advice_words, pieces};
@@ -125,10 +126,7 @@ impl<'w, W: Write, H: Host> Advisor<'w, W, H> {
     /// Says why no session began, if that is known.
     pub fn end_without_session(&mut self)
         ensures lent { self.new.output.writer.ghost_name ≡ self.old.output.writer.ghost_name }
-        ensures advised { Writes
-            (account_of (W.contents self.old.output.writer.now) self.old.output.has_failed)
-            (account_of (W.contents self.new.output.writer.now) self.new.output.has_failed)
-            (option_map_or (λ line. line.items) self.old.unfit []) }
+        ensures advised { Writes (account_at W.contents self.old.output) (account_at W.contents self.new.output) (option_map_or (λ line. line.items) self.old.unfit []) }
     {
         let _ = self.output.write(bytes_of(&self.unfit, b""));
     }
@@ -154,9 +152,7 @@ impl<'w, W: Write, H: Host> Advisor<'w, W, H> {
     /// Asks for the next line, with this as the present image.
     pub fn ask_with(&mut self, image: &Image)
         ensures lent { self.new.output.writer.ghost_name ≡ self.old.output.writer.ghost_name }
-        ensures asked { Writes
-            (account_of (W.contents self.old.output.writer.now) self.old.output.has_failed)
-            (account_of (W.contents self.new.output.writer.now) self.new.output.has_failed)
+        ensures asked { Writes (account_at W.contents self.old.output) (account_at W.contents self.new.output)
             (prompt (option_map_or (λ name. name.items) self.old.name (codes "d64sh")) (is_unsaved self.old.kept image.now)) }
     {
         let is_unsaved = is_unsaved(self.kept, image);
@@ -177,10 +173,7 @@ impl<'w, W: Write, H: Host> Advisor<'w, W, H> {
         ensures advised { (raw : List ℕ) → Says line.now raw → is_accepted status.now ≡ false → (start words : List ℕ)
             × MayStart self.old.is_numbered self.old.lines (named_text raw self.old.first_bytes.items) start
             × MaySay (H.state self.old.host) start (said_by raw) status.now words
-            × Writes
-            (account_of (W.contents self.old.output.writer.now) self.old.output.has_failed)
-            (account_of (W.contents self.new.output.writer.now) self.new.output.has_failed)
-            words }
+            × Writes (account_at W.contents self.old.output) (account_at W.contents self.new.output) words }
         ensures silent { is_accepted status.now ≡ true → self.new.output ≡ self.old.output }
     {
         let said = Said::of(line);
@@ -230,10 +223,7 @@ impl<'w, W: Write, H: Host> Advisor<'w, W, H> {
         ensures lent { self.new.output.writer.ghost_name ≡ self.old.output.writer.ghost_name }
         ensures advised { is_unsaved self.old.kept (present_image session.now) ≡ true → (line : List ℕ)
             × ((line ≡ unsaved_line) ⊎ ((self.old.is_left ≡ true) × IsKeptUnder (H.state self.old.host) home.now session.now line (H.state self.new.host)))
-            × Writes
-            (account_of (W.contents self.old.output.writer.now) self.old.output.has_failed)
-            (account_of (W.contents self.new.output.writer.now) self.new.output.has_failed)
-            line }
+            × Writes (account_at W.contents self.old.output) (account_at W.contents self.new.output) line }
         ensures silent { is_unsaved self.old.kept (present_image session.now) ≡ false → self.new ≡ self.old }
     {
         if !is_unsaved(self.kept, session.image()) {
@@ -399,10 +389,7 @@ fn write_advice<W: Write>(
     advice: Advice,
 ) -> Result<(), WriteFault>
     ensures same { output.new.writer.ghost_name ≡ output.old.writer.ghost_name }
-    ensures either { Writes
-        (account_of (W.contents output.old.writer.now) output.old.has_failed)
-        (account_of (W.contents output.new.writer.now) output.new.has_failed)
-        (start.now ++ advice_words said.now (pieces advice)) }
+    ensures either { Writes (account_at W.contents output.old) (account_at W.contents output.new) (start.now ++ advice_words said.now (pieces advice)) }
 {
     output.write(start)?;
     for piece in advice.pieces.iter() {

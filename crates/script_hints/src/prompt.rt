@@ -1,6 +1,7 @@
 //! The prompt: which image a session is of, and whether it has changes that are not saved.
 ghost use Rattle.std.specs.Prelude.{◌≡◌, ◌++◌, IfOk, OnOk, OnErr};
-ghost use Rattle.script_text.specs.Output.{Writes, account_of};
+ghost use Rattle.script_text.specs.Output.{Writes};
+ghost use Rattle.program_console.specs.Outside.{account_at};
 ghost use Rattle.script_commands.specs.Arguments.{after_slash};
 ghost use Rattle.script_hints.specs.Prompt.{mark, name_in_prompt, prompt};
 
@@ -39,10 +40,7 @@ pub(crate) fn write_prompt<W: Write>(
     is_unsaved: bool,
 ) -> Result<(), WriteFault>
     ensures same { output.new.writer.ghost_name ≡ output.old.writer.ghost_name }
-    ensures either { Writes
-        (account_of (W.contents output.old.writer.now) output.old.has_failed)
-        (account_of (W.contents output.new.writer.now) output.new.has_failed)
-        (prompt name.now is_unsaved) }
+    ensures either { Writes (account_at W.contents output.old) (account_at W.contents output.new) (prompt name.now is_unsaved) }
 {
     output.write(name)?;
     output.write(mark(is_unsaved))

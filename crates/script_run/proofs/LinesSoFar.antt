@@ -1,55 +1,28 @@
--- Runs that come through a script piece by piece.
-use Rattle.std.proofs.Common.{◌≡◌, ℕ, ◌+◌, ◌<◌, List, [], ◌∷◌, ◌++◌, length, true, false, cond, filter, Option, refl, sym, ap, ◌∙◌, subst, append_assoc, append-nil, arith, ◌||◌, eqb, eqb-true}
-use Rattle.std.proofs.lemmas.Bool.{false≢true}
+-- Runs that come through a script line by line.
+use Rattle.std.proofs.Common.{◌≡◌, ℕ, ◌+◌, ◌<◌, List, [], ◌∷◌, ◌++◌, length, true, false, map, Option, refl, sym, ap, ◌∙◌, subst, append_assoc, append-nil, arith, ◌||◌, eqb, eqb-true}
 use Rattle.std.specs.Io.KnownBytes.{Appends}
-use Rattle.std.specs.Prelude.{OnOk, OnErr, if◌then◌else◌, Result, Ok, Err}
+use Rattle.std.specs.Prelude.{MatchResult, OnOk, OnErr, if◌then◌else◌, Result, Ok, Err}
+use Rattle.std.proofs.KnownBytes.{Appends-nil, Appends-trans}
+use Rattle.std.proofs.lemmas.Bool.{false≢true}
+use Rattle.std.proofs.lemmas.List.{map-append, nil_from_length}
 use Rattle.script_text.specs.Output.{AppendsPart}
 use Rattle.script_commands.specs.Line.{IsAnswered, IsSkipped}
-use Rattle.std.proofs.KnownBytes.{Appends-nil, Appends-trans}
-use Rattle.std.proofs.lemmas.List.Elements.{filter-append}
-use Rattle.script_text.specs.HeldLine.{Holds, IsOpen}
-use Rattle.script_text.specs.RawLines.{is_ended, lines_of}
-use Rattle.script_text.specs.declared.held_line.HeldLine.{HeldLine}
-use Rattle.script_text.proofs.LineCuts.{lines_of-nil}
-use Rattle.script_text.proofs.OpenLines.{IsOpen-append, lines_of-ended, lines_of-begun, is_ended-push}
 use Rattle.script_commands.specs.Act.{printed_bytes, LineAnswer, World}
 use Rattle.script_text.specs.Status.{is_accepted}
-use Rattle.script_run.specs.Transcript.{ends_script, RunOptions, Transcript, counted_progress}
+use Rattle.script_run.specs.Transcript.{ends_script, RunOptions, RunProgress, Transcript, counted_progress}
 use Rattle.script_run.specs.Runner.{ScriptState, first_progress, RanLines, StoppedAt}
-use Rattle.script_run.specs.LineByLine.{progress_of, AreCutInto, ScriptHasCome, HasClosed, RunsLine, StopsInLine}
+use Rattle.script_run.specs.LineByLine.{KeepsRun, progress_of, RunsLine, StopsInLine, ended_line, lines_in}
+use Rattle.script_run.specs.declared.runner.LineRunner.{LineRunner}
 use Rattle.script_run.specs.declared.runner.Tally.{Tally}
+use Rattle.script_run.proofs.ScriptLines.{lines_in-append, lines_in-ended, lines_in-last}
 use Rattle.script_run.proofs.ScriptRuns.{RanLines-closed}
 use Rattle.script_run.proofs.Transcripts.{Line-answered, Line-skipped, Transcript-line}
 
--- no bytes
-AreCutInto-none : AreCutInto [] [] []
-AreCutInto-none = record { ended = refl; is_open = refl; goes_on = λ more. refl }
-
--- bytes more, with no LF among them
-AreCutInto-more : (bytes part begun : List ℕ) (lines : List (List ℕ)) → AreCutInto bytes lines begun → IsOpen part → AreCutInto (bytes ++ part) lines (begun ++ part)
-AreCutInto-more bytes part begun lines cut is_open = record {
-  ended = cut.ended;
-  is_open = IsOpen-append begun part cut.is_open is_open;
-  goes_on = λ more.
-      ap lines_of (append_assoc bytes part more) ∙ cut.goes_on (part ++ more) ∙ ap (λ l. lines ++ lines_of l) (sym (append_assoc begun part more));
-}
-
--- bytes more, with an LF at their end
-AreCutInto-line : (bytes part begun : List ℕ) (lines : List (List ℕ)) → AreCutInto bytes lines begun → IsOpen part
-    → AreCutInto (bytes ++ (part ++ 10 ∷ [])) (lines ++ ((begun ++ part) ++ 10 ∷ []) ∷ []) []
-AreCutInto-line bytes part begun lines cut is_open =
-    let line = (begun ++ part) ++ 10 ∷ [] in
-    let longer = AreCutInto-more bytes part begun lines cut is_open in
-    record {
-      ended =
-          filter-append is_ended lines (line ∷ []) ∙ ap (λ l. l ++ filter is_ended (line ∷ [])) cut.ended
-          ∙ ap (λ b. lines ++ cond b (line ∷ []) []) (is_ended-push (begun ++ part));
-      is_open = refl;
-      goes_on = λ more.
-          ap (λ l. lines_of (l ++ more)) (sym (append_assoc bytes part (10 ∷ []))) ∙ ap lines_of (append_assoc (bytes ++ part) (10 ∷ []) more)
-          ∙ longer.goes_on (10 ∷ more) ∙ ap (λ l. lines ++ l) (lines_of-ended (begun ++ part) more longer.is_open)
-          ∙ sym (append_assoc lines (line ∷ []) (lines_of more));
-    }
+-- a run that begins
+pub RanLines-none : (options : RunOptions) (reached : ScriptState) (tally : Tally) → tally ≡ record { outcome = record { accepted = 0; refused = 0 }; closed = false }
+    → RanLines options reached reached [] (progress_of tally reached.world)
+unfolding Transcript
+RanLines-none options reached tally none = record { out = []; reported = (refl, ap (λ t. progress_of t reached.world) none); written = Appends-nil reached.writer; world = refl }
 
 -- one line more has run
 RanLines-line : (options : RunOptions) (first old new : ScriptState) (lines : List (List ℕ)) (line : List ℕ) (before after : Tally)
@@ -62,62 +35,22 @@ RanLines-line options first old new lines line before after ran open_run runs = 
   world = refl;
 }
 
--- a run that begins
-pub ScriptHasCome-none : (options : RunOptions) (reached : ScriptState) (tally : Tally) (line : HeldLine)
-    → tally ≡ record { outcome = record { accepted = 0; refused = 0 }; closed = false } → Holds line [] → ScriptHasCome options reached reached tally line []
-unfolding Transcript
-ScriptHasCome-none options reached tally line none held = record {
-  lines = [];
-  begun = [];
-  cut = AreCutInto-none;
-  ran = record { out = []; reported = (refl, ap (λ t. progress_of t reached.world) none); written = Appends-nil reached.writer; world = refl };
-  held = held;
-  open_run = ap (λ t. t.closed) none;
-}
+-- the line of one part more has run
+pub RanLines-part : (options same : RunOptions) (first old new : ScriptState) (parts : List (List ℕ)) (part : List ℕ) (before after : Tally)
+    → RanLines options first old (map ended_line parts) (progress_of before old.world) → before.closed ≡ false → same ≡ options → RunsLine same (ended_line part) old new before after
+    → RanLines options first new (map ended_line (parts ++ part ∷ [])) (progress_of after new.world)
+RanLines-part options same first old new parts part before after ran open_run is_same runs =
+    subst (λ (l : List (List ℕ)). RanLines options first new l (progress_of after new.world)) (sym (map-append ended_line parts (part ∷ [])))
+    (RanLines-line options first old new (map ended_line parts) (ended_line part) before after ran open_run
+    (subst (λ (o : RunOptions). RunsLine o (ended_line part) old new before after) is_same runs))
 
--- bytes more, with no LF among them
-pub ScriptHasCome-more : (options : RunOptions) (first reached : ScriptState) (tally : Tally) (line longer : HeldLine) (bytes part : List ℕ)
-    → ScriptHasCome options first reached tally line bytes → IsOpen part → ((begun : List ℕ) → Holds line begun → Holds longer (begun ++ part))
-    → ScriptHasCome options first reached tally longer (bytes ++ part)
-ScriptHasCome-more options first reached tally line longer bytes part come is_open held = record {
-  lines = come.lines;
-  begun = come.begun ++ part;
-  cut = AreCutInto-more bytes part come.begun come.lines come.cut is_open;
-  ran = come.ran;
-  held = held come.begun come.held;
-  open_run = come.open_run;
-}
-
--- a line more was ended, and has run
-pub ScriptHasCome-line : (options : RunOptions) (first old new : ScriptState) (before after : Tally) (line next : HeldLine) (bytes part : List ℕ)
-    → (come : ScriptHasCome options first old before line bytes) → IsOpen part → RunsLine options ((come.begun ++ part) ++ 10 ∷ []) old new before after
-    → after.closed ≡ false → Holds next [] → ScriptHasCome options first new after next (bytes ++ (part ++ 10 ∷ []))
-ScriptHasCome-line options first old new before after line next bytes part come is_open runs open_run held = record {
-  lines = come.lines ++ ((come.begun ++ part) ++ 10 ∷ []) ∷ [];
-  begun = [];
-  cut = AreCutInto-line bytes part come.begun come.lines come.cut is_open;
-  ran = RanLines-line options first old new come.lines ((come.begun ++ part) ++ 10 ∷ []) before after come.ran come.open_run runs;
-  held = held;
-  open_run = open_run;
-}
-
--- a line more was ended, and ended the run: what comes after it is silent
-pub HasClosed-line : (options : RunOptions) (first old new : ScriptState) (before after : Tally) (line : HeldLine) (bytes part rest : List ℕ)
-    → (come : ScriptHasCome options first old before line bytes) → IsOpen part → RunsLine options ((come.begun ++ part) ++ 10 ∷ []) old new before after
-    → after.closed ≡ true → HasClosed options first new after ((bytes ++ (part ++ 10 ∷ [])) ++ rest)
-HasClosed-line options first old new before after line bytes part rest come is_open runs closed_run =
-    let script = bytes ++ (part ++ 10 ∷ []) in
-    let last = (come.begun ++ part) ++ 10 ∷ [] in
-    let lines = come.lines ++ last ∷ [] in
-    let cut = AreCutInto-line bytes part come.begun come.lines come.cut is_open in
-    let ran = RanLines-line options first old new come.lines last before after come.ran come.open_run runs in
-    let P : List (List ℕ) → Type 0 = λ l. RanLines options first new l (progress_of after new.world) in
-    record {
-      ran = λ more.
-          subst P (sym (ap lines_of (append_assoc script rest more) ∙ cut.goes_on (rest ++ more)))
-          (RanLines-closed options first new lines (lines_of (rest ++ more)) (progress_of after new.world) ran closed_run);
-      closed_run = closed_run;
-    }
+-- it ended the run: what comes after it is silent
+pub RanLines-ending : (options : RunOptions) (first new : ScriptState) (parts more : List (List ℕ)) (part next : List ℕ) (after : RunProgress)
+    → RanLines options first new (map ended_line (parts ++ part ∷ [])) after → after.closed ≡ true → RanLines options first new (lines_in (parts ++ part ∷ next ∷ more)) after
+RanLines-ending options first new parts more part next after ran closed =
+    subst (λ (l : List (List ℕ)). RanLines options first new l after)
+    (sym (lines_in-append (parts ++ part ∷ []) next more) ∙ ap lines_in (append_assoc parts (part ∷ []) (next ∷ more)))
+    (RanLines-closed options first new (map ended_line (parts ++ part ∷ [])) (lines_in (next ∷ more)) after ran closed)
 
 -- a write failed at a line
 StoppedAt-line : (options : RunOptions) (first old new : ScriptState) (lines rest all : List (List ℕ)) (line : List ℕ) (before : Tally)
@@ -142,54 +75,37 @@ StoppedAt-line options first old new lines rest all line before ran open_run sto
   world = stops.world;
 }
 
--- at one that was ended
-pub StoppedAt-ended : (options : RunOptions) (first old new : ScriptState) (before : Tally) (line : HeldLine) (bytes part rest more : List ℕ)
-    → (come : ScriptHasCome options first old before line bytes) → IsOpen part → StopsInLine options ((come.begun ++ part) ++ 10 ∷ []) old new before
-    → StoppedAt options first new (lines_of (((bytes ++ (part ++ 10 ∷ [])) ++ rest) ++ more))
-StoppedAt-ended options first old new before line bytes part rest more come is_open stops =
-    let script = bytes ++ (part ++ 10 ∷ []) in
-    let last = (come.begun ++ part) ++ 10 ∷ [] in
-    let others = lines_of (rest ++ more) in
-    let cut = AreCutInto-line bytes part come.begun come.lines come.cut is_open in
-    StoppedAt-line options first old new come.lines others (lines_of ((script ++ rest) ++ more)) last before come.ran come.open_run stops
-    (sym (ap lines_of (append_assoc script rest more) ∙ cut.goes_on (rest ++ more) ∙ append_assoc come.lines (last ∷ []) others))
-
--- the lines of a script that has come whole
-pub lines_of-whole : (bytes begun : List ℕ) (lines : List (List ℕ)) → AreCutInto bytes lines begun → lines_of bytes ≡ lines ++ lines_of begun
-lines_of-whole bytes begun lines cut =
-    sym (ap lines_of (append-nil bytes)) ∙ cut.goes_on [] ∙ ap (λ l. lines ++ lines_of l) (append-nil begun)
-
-no_bytes : (bytes : List ℕ) → length bytes < 1 → bytes ≡ []
-no_bytes [] none = refl
-no_bytes (byte ∷ rest) none = absurd (omega arith)
+pub StoppedAt-part : (options same : RunOptions) (first old new : ScriptState) (parts more : List (List ℕ)) (part next : List ℕ) (before : Tally)
+    → RanLines options first old (map ended_line parts) (progress_of before old.world) → before.closed ≡ false → same ≡ options → StopsInLine same (ended_line part) old new before
+    → StoppedAt options first new (lines_in (parts ++ part ∷ next ∷ more))
+StoppedAt-part options same first old new parts more part next before ran open_run is_same stops =
+    StoppedAt-line options first old new (map ended_line parts) (lines_in (next ∷ more)) (lines_in (parts ++ part ∷ next ∷ more)) (ended_line part) before ran open_run
+    (subst (λ (o : RunOptions). StopsInLine o (ended_line part) old new before) is_same stops)
+    (sym (lines_in-append parts part (next ∷ more) ∙ ap (λ (l : List (List ℕ)). map ended_line parts ++ l) (lines_in-ended part next more)))
 
 -- nothing follows the last LF
-pub RanLines-whole : (options : RunOptions) (first reached : ScriptState) (tally : Tally) (line : HeldLine) (bytes : List ℕ)
-    → (come : ScriptHasCome options first reached tally line bytes) → length come.begun < 1 → RanLines options first reached (lines_of bytes) (progress_of tally reached.world)
-RanLines-whole options first reached tally line bytes come none =
-    let P : List (List ℕ) → Type 0 = λ l. RanLines options first reached l (progress_of tally reached.world) in
-    let same = lines_of-whole bytes come.begun come.lines come.cut ∙ ap (λ l. come.lines ++ lines_of l) (no_bytes come.begun none)
-    ∙ ap (λ l. come.lines ++ l) lines_of-nil ∙ append-nil come.lines in
-    subst P (sym same) come.ran
+pub RanLines-whole : (options : RunOptions) (first reached : ScriptState) (parts : List (List ℕ)) (last : List ℕ) (after : RunProgress)
+    → RanLines options first reached (map ended_line parts) after → length last ≡ 0 → RanLines options first reached (lines_in (parts ++ last ∷ [])) after
+RanLines-whole options first reached parts last after ran none =
+    subst (λ (l : List (List ℕ)). RanLines options first reached l after)
+    (sym (lines_in-append parts last [] ∙ ap (λ (l : List ℕ). map ended_line parts ++ lines_in (l ∷ [])) (nil_from_length last none) ∙ append-nil (map ended_line parts))) ran
 
 -- the last line lacks its LF
-lines_of-last : (bytes begun : List ℕ) (lines : List (List ℕ)) → AreCutInto bytes lines begun → 0 < length begun → lines_of bytes ≡ lines ++ begun ∷ []
-lines_of-last bytes begun lines cut some = lines_of-whole bytes begun lines cut ∙ ap (λ l. lines ++ l) (lines_of-begun begun cut.is_open some)
+pub RanLines-last : (options same : RunOptions) (first old new : ScriptState) (parts : List (List ℕ)) (last : List ℕ) (before after : Tally)
+    → RanLines options first old (map ended_line parts) (progress_of before old.world) → before.closed ≡ false → 0 < length last → same ≡ options → RunsLine same last old new before after
+    → RanLines options first new (lines_in (parts ++ last ∷ [])) (progress_of after new.world)
+RanLines-last options same first old new parts last before after ran open_run some is_same runs =
+    subst (λ (l : List (List ℕ)). RanLines options first new l (progress_of after new.world))
+    (sym (lines_in-append parts last [] ∙ ap (λ (l : List (List ℕ)). map ended_line parts ++ l) (lines_in-last last some)))
+    (RanLines-line options first old new (map ended_line parts) last before after ran open_run (subst (λ (o : RunOptions). RunsLine o last old new before after) is_same runs))
 
-pub RanLines-last : (options : RunOptions) (first old new : ScriptState) (before after : Tally) (line : HeldLine) (bytes : List ℕ)
-    → (come : ScriptHasCome options first old before line bytes) → 0 < length come.begun → RunsLine options come.begun old new before after
-    → RanLines options first new (lines_of bytes) (progress_of after new.world)
-RanLines-last options first old new before after line bytes come some runs =
-    let P : List (List ℕ) → Type 0 = λ l. RanLines options first new l (progress_of after new.world) in
-    subst P (sym (lines_of-last bytes come.begun come.lines come.cut some))
-    (RanLines-line options first old new come.lines come.begun before after come.ran come.open_run runs)
-
-pub StoppedAt-last : (options : RunOptions) (first old new : ScriptState) (before : Tally) (line : HeldLine) (bytes : List ℕ)
-    → (come : ScriptHasCome options first old before line bytes) → 0 < length come.begun → StopsInLine options come.begun old new before
-    → StoppedAt options first new (lines_of bytes)
-StoppedAt-last options first old new before line bytes come some stops =
-    StoppedAt-line options first old new come.lines [] (lines_of bytes) come.begun before come.ran come.open_run stops
-    (sym (lines_of-last bytes come.begun come.lines come.cut some))
+pub StoppedAt-last : (options same : RunOptions) (first old new : ScriptState) (parts : List (List ℕ)) (last : List ℕ) (before : Tally)
+    → RanLines options first old (map ended_line parts) (progress_of before old.world) → before.closed ≡ false → 0 < length last → same ≡ options → StopsInLine same last old new before
+    → StoppedAt options first new (lines_in (parts ++ last ∷ []))
+StoppedAt-last options same first old new parts last before ran open_run some is_same stops =
+    StoppedAt-line options first old new (map ended_line parts) [] (lines_in (parts ++ last ∷ [])) last before ran open_run
+    (subst (λ (o : RunOptions). StopsInLine o last old new before) is_same stops)
+    (sym (lines_in-append parts last [] ∙ ap (λ (l : List (List ℕ)). map ended_line parts ++ l) (lines_in-last last some)))
 
 -- a line that is skipped has run, and nothing was written
 pub RunsLine-skipped : (options : RunOptions) (raw : List ℕ) (writer : Option (List ℕ)) (world after : World) (tally : Tally) → IsSkipped options.home world.history raw world after
@@ -202,26 +118,21 @@ RunsLine-skipped options raw writer world after tally skipped =
       written = Appends-nil writer;
     })
 
--- a line that prints has run, and what it prints was written
-pub RunsLine-answered : {E : Type 0} (options : RunOptions) (raw : List ℕ) (old new : Option (List ℕ)) (world left : World) (before after : Tally) (answer : LineAnswer) (wrote : Result (Unit {0}) E)
+-- a line that prints has run, and what it prints was written, or a write of it failed
+pub EndsLine-answered : {E : Type 0} (options : RunOptions) (raw : List ℕ) (old new : Option (List ℕ)) (world left : World) (before after : Tally) (answer : LineAnswer) (wrote : Result (Unit {0}) E)
     → IsAnswered options.home world.history raw world answer left → after.closed ≡ (answer.closes || ends_script options.refusals answer.status)
     → after.outcome.accepted ≡ before.outcome.accepted + (if is_accepted answer.status then 1 else 0)
     → after.outcome.refused ≡ before.outcome.refused + (if is_accepted answer.status then 0 else 1)
-    → OnOk wrote (Appends old new (printed_bytes answer))
-    → OnOk wrote (RunsLine options raw (record { writer = old; world = world }) (record { writer = new; world = left }) before after)
-RunsLine-answered options raw old new world left before after answer (Ok done) answered closes accepted refused written = record {
+    → OnOk wrote (Appends old new (printed_bytes answer)) → OnErr wrote (AppendsPart old new (printed_bytes answer))
+    → MatchResult wrote
+    (λ _. RunsLine options raw (record { writer = old; world = world }) (record { writer = new; world = left }) before after)
+    (λ _. StopsInLine options raw (record { writer = old; world = world }) (record { writer = new; world = left }) before)
+EndsLine-answered options raw old new world left before after answer (Ok done) answered closes accepted refused written part = record {
   said = printed_bytes answer;
   reported = rw (closes, accepted, refused) (Line-answered options raw (progress_of before world) answer left answered);
   written = written;
 }
-RunsLine-answered options raw old new world left before after answer (Err error) answered closes accepted refused written = tt
-
--- a write of what it prints failed
-pub StopsInLine-answered : {E : Type 0} (options : RunOptions) (raw : List ℕ) (old new : Option (List ℕ)) (world left : World) (before : Tally) (answer : LineAnswer) (wrote : Result (Unit {0}) E)
-    → IsAnswered options.home world.history raw world answer left → OnErr wrote (AppendsPart old new (printed_bytes answer))
-    → OnErr wrote (StopsInLine options raw (record { writer = old; world = world }) (record { writer = new; world = left }) before)
-StopsInLine-answered options raw old new world left before answer (Ok done) answered part = tt
-StopsInLine-answered options raw old new world left before answer (Err error) answered part = record {
+EndsLine-answered options raw old new world left before after answer (Err error) answered closes accepted refused written part = record {
   said = printed_bytes answer;
   after = counted_progress options.refusals (progress_of before world) answer left;
   reported = Line-answered options raw (progress_of before world) answer left answered;
@@ -230,9 +141,20 @@ StopsInLine-answered options raw old new world left before answer (Err error) an
 }
 
 -- what a test whether bytes have come says
-pub has_none : (bytes : List ℕ) → eqb (length bytes) 0 ≡ true → length bytes < 1
-has_none bytes none = omega (arith, eqb-true (length bytes) 0 none)
+pub has_none : (bytes : List ℕ) → eqb (length bytes) 0 ≡ true → length bytes ≡ 0
+has_none bytes none = eqb-true (length bytes) 0 none
 
 pub has_some : (bytes : List ℕ) → eqb (length bytes) 0 ≡ false → 0 < length bytes
 has_some [] some = absurd (false≢true (sym some))
 has_some (byte ∷ rest) some = omega arith
+
+-- what stays the same stays so
+pub KeepsRun-trans : {L W H : Type 0} (first old new : LineRunner L W H) → KeepsRun first old → KeepsRun old new → KeepsRun first new
+KeepsRun-trans first old new a b = record {
+  options = b.options ∙ a.options;
+  observer = b.observer ∙ a.observer;
+  output = b.output ∙ a.output;
+  writer = b.writer ∙ a.writer;
+  host = b.host ∙ a.host;
+  session = b.session ∙ a.session;
+}

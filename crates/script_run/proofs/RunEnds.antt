@@ -1,106 +1,39 @@
--- How a run ends that has come through the first bytes of its script.
-use Rattle.std.proofs.Common.{◌≡◌, ℕ, ◌+◌, ◌<◌, ◌≤◌, List, [], ◌∷◌, ◌++◌, length, true, false, Bool, filter, take, drop, Option, None, Some, Result, Ok, Err, refl, sym, ap, ◌∙◌, subst, append_assoc, append-nil, length-append, ◌-◌, take-append-drop, take-take, min, arith, ⊎_elim}
-use Rattle.std.specs.Prelude.{MatchBool}
-use Rattle.std.specs.Io.KnownBytes.{Appends, Consumes, IsAtEnd, Keeps}
-use Rattle.std.proofs.KnownBytes.{Appends-kept, Consumes-trans, Consumes-whole}
-use Rattle.std.proofs.Math.Seq.{take-append-add}
-use Rattle.std.proofs.lemmas.List.{length-take}
+-- How a run of a script ends.
+use Rattle.std.proofs.Common.{◌≡◌, ℕ, ◌+◌, ◌<◌, List, [], ◌∷◌, ◌++◌, length, map, true, false, Bool, take, Option, Result, Ok, Err, refl, sym, ap, ◌∙◌, subst, append_assoc, append-nil, arith, ⊎_elim}
+use Rattle.std.specs.Prelude.{MatchBool, OnOk}
+use Rattle.std.specs.Io.KnownBytes.{Appends, Consumes, Keeps}
+use Rattle.std.proofs.KnownBytes.{Appends-kept}
 use Rattle.std.proofs.lemmas.Bool.{cases_Bool, false≢true}
-use Rattle.std.proofs.lemmas.List.Elements.{filter-append}
-use Rattle.script_text.specs.RawLines.{ended_lines, is_ended, lines_of}
+use Rattle.host_storage.specs.Files.{HostState}
+use Rattle.script_commands.specs.Act.{world_of}
+use Rattle.script_text.specs.HeldLine.{Holds}
 use Rattle.script_text.specs.Input.{Reading}
-use Rattle.script_text.specs.Output.{FailsWith}
 use Rattle.script_text.specs.Script.{script_limit}
-use Rattle.script_text.specs.declared.held_line.HeldLine.{HeldLine}
-use Rattle.script_text.proofs.LineCuts.{ended_lines-none}
+use Rattle.script_parts.specs.Parts.{Ends, HasCome}
 use Rattle.script_run.specs.Transcript.{RunOptions, RunProgress, Line, Transcript, IsSilent}
-use Rattle.script_run.specs.Runner.{EndsWith, ScriptState, first_progress, Ran, RanLines, RanRead, RanUpTo, RanWhole, StoppedAt}
-use Rattle.script_run.specs.LineByLine.{progress_of, EndsRun, HasClosed, ScriptHasCome}
+use Rattle.script_run.specs.Runner.{EndsWith, ScriptState, first_progress, Ran, RanLines, RanRead, StoppedAt, options_of}
+use Rattle.script_run.specs.LineByLine.{EndsRun, HasRun, ended_line, lines_in, progress_of, state_of}
+use Rattle.script_run.specs.declared.runner.LineRunner.{LineRunner}
 use Rattle.script_run.specs.declared.runner.Outcome.{Outcome}
 use Rattle.script_run.specs.declared.runner.ShellFault.{ShellFault}
-use Rattle.script_run.specs.declared.runner.Tally.{Tally}
-use Rattle.script_run.proofs.LinesSoFar.{lines_of-whole}
+use Rattle.script_run.specs.declared.runner.ShellFault.TheVariants.{Read, Write}
+use Rattle.script_run.proofs.LinesSoFar.{RanLines-none}
+use Rattle.script_run.proofs.ScriptLines.{ended_lines-come, lines_in-append, lines_of-parts}
 use Rattle.script_run.proofs.ScriptRuns.{StoppedAt-more}
 
 -- the state after a flush
 abbrev pub flushed_state : ScriptState → Option (List ℕ) → ScriptState
 flushed_state reached flushed = record { writer = flushed; world = reached.world }
 
--- a flush changes nothing of how far a run has come
-pub ScriptHasCome-flushed : (options : RunOptions) (first reached : ScriptState) (tally : Tally) (line : HeldLine) (bytes : List ℕ) (flushed : Option (List ℕ))
-    → ScriptHasCome options first reached tally line bytes → Keeps reached.writer flushed → ScriptHasCome options first (flushed_state reached flushed) tally line bytes
-ScriptHasCome-flushed options first reached tally line bytes flushed come kept = record {
-  lines = come.lines;
-  begun = come.begun;
-  cut = come.cut;
-  ran = record {
-    out = come.ran.out;
-    reported = come.ran.reported;
-    written = Appends-kept first.writer reached.writer flushed come.ran.out come.ran.written kept;
-    world = come.ran.world;
-  };
-  held = come.held;
-  open_run = come.open_run;
+-- a flush changes nothing of what has run
+pub RanLines-flushed : (options : RunOptions) (first reached : ScriptState) (lines : List (List ℕ)) (after : RunProgress) (flushed : Option (List ℕ))
+    → RanLines options first reached lines after → Keeps reached.writer flushed → RanLines options first (flushed_state reached flushed) lines after
+RanLines-flushed options first reached lines after flushed ran kept = record {
+  out = ran.out;
+  reported = ran.reported;
+  written = Appends-kept first.writer reached.writer flushed ran.out ran.written kept;
+  world = ran.world;
 }
-
--- the script that the reader had, of which some bytes have come and some more were read
-pub RanUpTo-by : (options : RunOptions) (reader left : Option (List ℕ)) (first reached : ScriptState) (bytes over : List ℕ) → Consumes reader left (bytes ++ over)
-    → ((more : List ℕ) → StoppedAt options first reached (lines_of (bytes ++ more))) → RanUpTo options reader first reached
-RanUpTo-by options None left first reached bytes over lost stopped = record { script = bytes ++ []; all = tt; stopped = stopped [] }
-RanUpTo-by options (Some xs) None first reached bytes over lost stopped = absurd lost
-RanUpTo-by options (Some xs) (Some ys) first reached bytes over lost stopped =
-    record { script = bytes ++ (over ++ ys); all = sym (lost ∙ append_assoc bytes over ys); stopped = stopped (over ++ ys) }
-
-pub RanWhole-by : (options : RunOptions) (reader left : Option (List ℕ)) (first reached : ScriptState) (tally : Tally) (bytes over : List ℕ) → Consumes reader left (bytes ++ over)
-    → HasClosed options first reached tally bytes → RanWhole options reader first reached tally.outcome
-RanWhole-by options None left first reached tally bytes over lost closed =
-    record { script = bytes ++ []; all = tt; after = progress_of tally reached.world; ran = closed.ran []; accepted = refl; refused = refl }
-RanWhole-by options (Some xs) None first reached tally bytes over lost closed = absurd lost
-RanWhole-by options (Some xs) (Some ys) first reached tally bytes over lost closed =
-    record {
-      script = bytes ++ (over ++ ys);
-      all = sym (lost ∙ append_assoc bytes over ys);
-      after = progress_of tally reached.world;
-      ran = closed.ran (over ++ ys);
-      accepted = refl;
-      refused = refl;
-    }
-
--- the run ended with its script
-pub Ran-ended : (options : RunOptions) (reader left : Option (List ℕ)) (first reached : ScriptState) (bytes : List ℕ) (ended : Result Outcome ShellFault)
-    → Consumes reader left bytes → IsAtEnd left → EndsRun options first reached bytes ended → Ran options reader left first reached ended
-Ran-ended options reader left first reached bytes (Ok outcome) lost end ran =
-    record {
-      script = bytes;
-      all = Consumes-whole reader left bytes (λ input. bytes ≡ input) lost end refl;
-      after = ran.0;
-      ran = ran.1;
-      accepted = ran.2;
-      refused = ran.3;
-    }
-Ran-ended options reader left first reached bytes (Err fault) lost end stopped =
-    subst (λ f. Ran options reader left first reached (Err f)) (sym stopped.0)
-    (record { script = bytes; all = Consumes-whole reader left bytes (λ input. bytes ≡ input) lost end refl; stopped = stopped.1 })
-
--- the ended lines of the bytes that have come
-ended_lines-come : (options : RunOptions) (first reached : ScriptState) (tally : Tally) (line : HeldLine) (bytes : List ℕ)
-    → (come : ScriptHasCome options first reached tally line bytes) → ended_lines bytes ≡ come.lines
-ended_lines-come options first reached tally line bytes come =
-    ap (filter is_ended) (lines_of-whole bytes come.begun come.lines come.cut) ∙ filter-append is_ended come.lines (lines_of come.begun)
-    ∙ ap (λ l. l ++ ended_lines come.begun) come.cut.ended ∙ ap (λ l. come.lines ++ l) (ended_lines-none come.begun come.cut.is_open) ∙ append-nil come.lines
-
--- reading failed, or passed a limit after the bytes that have come
-pub RanRead-by : (options : RunOptions) (reader left : Option (List ℕ)) (first reached : ScriptState) (tally : Tally) (line : HeldLine) (bytes consumed : List ℕ)
-    → Consumes reader left consumed → take script_limit consumed ≡ bytes → ScriptHasCome options first reached tally line bytes → RanRead options reader left first reached
-RanRead-by options reader left first reached tally line bytes consumed lost kept come =
-    let P : List (List ℕ) → Type 0 = λ l. RanLines options first reached l (progress_of tally reached.world) in
-    record {
-      consumed = consumed;
-      lost = lost;
-      after = progress_of tally reached.world;
-      ran = subst P (sym (ap ended_lines kept ∙ ended_lines-come options first reached tally line bytes come)) come.ran;
-      open_run = come.open_run;
-    }
 
 -- a line of a closed run leaves it as it was
 silent : (closed : Bool) (start : RunProgress) (said : List ℕ) (after : RunProgress) (Q : Type 0) → closed ≡ true → MatchBool closed (IsSilent start said after) Q → after ≡ start
@@ -208,56 +141,84 @@ StoppedAt-flush options first reached lines after flushed ran is_open some kept 
       world = ran.world;
     }
 
-pub RanUpTo-flush : (options : RunOptions) (reader left : Option (List ℕ)) (first reached : ScriptState) (tally : Tally) (line : HeldLine) (bytes : List ℕ) (flushed : Option (List ℕ))
-    → Consumes reader left bytes → ScriptHasCome options first reached tally line bytes → Keeps reached.writer flushed
-    → 0 < tally.outcome.accepted + tally.outcome.refused → RanUpTo options reader first (flushed_state reached flushed)
-RanUpTo-flush options reader left first reached tally line bytes flushed lost come kept some =
-    let after = flushed_state reached flushed in
-    let stopped = StoppedAt-flush options first reached come.lines (progress_of tally reached.world) flushed come.ran come.open_run some kept in
-    RanUpTo-by options reader left first after bytes [] (subst (Consumes reader left) (sym (append-nil bytes)) lost)
-    (λ more. subst (λ l. StoppedAt options first after l) (sym (come.cut.goes_on more)) (StoppedAt-more options first after come.lines (lines_of (come.begun ++ more)) stopped))
+-- it failed before the next read
+pub StoppedAt-before : (options : RunOptions) (first reached : ScriptState) (parts more : List (List ℕ)) (next : List ℕ) (after : RunProgress) (flushed : Option (List ℕ))
+    → RanLines options first reached (map ended_line parts) after → after.closed ≡ false → 0 < after.accepted + after.refused → Keeps reached.writer flushed
+    → StoppedAt options first (flushed_state reached flushed) (lines_in (parts ++ next ∷ more))
+StoppedAt-before options first reached parts more next after flushed ran is_open some kept =
+    subst (StoppedAt options first (flushed_state reached flushed)) (sym (lines_in-append parts next more))
+    (StoppedAt-more options first (flushed_state reached flushed) (map ended_line parts) (lines_in (next ∷ more))
+    (StoppedAt-flush options first reached (map ended_line parts) after flushed ran is_open some kept))
 
--- a read that found the end consumed nothing
-pub Consumes-none : (a b c : Option (List ℕ)) (bytes more : List ℕ) (count : ℕ) → Consumes a b bytes → Consumes b c (take count more) → count ≡ 0 → Consumes a c bytes
-Consumes-none a b c bytes more count before read none =
-    subst (Consumes a c) (ap (λ n. bytes ++ take n more) none ∙ append-nil bytes) (Consumes-trans a b c bytes (take count more) before read)
+-- a run that begins
+pub HasRun-none : {L W H : Type 0} (contents : W → Option (List ℕ)) (state : H → HostState) (run : LineRunner L W H) → run.tally ≡ record { outcome = record { accepted = 0; refused = 0 }; closed = false }
+    → Holds run.line [] → run.output.now.has_failed ≡ false → HasRun contents state run run [] []
+HasRun-none contents state run none held unfailed = record {
+  keeps = record { options = refl; observer = refl; output = refl; writer = refl; host = refl; session = refl };
+  ran = RanLines-none (options_of run.options) (state_of contents state run) run.tally none;
+  held = held;
+  open_run = ap (λ t. t.closed) none;
+  unfailed = unfailed;
+  observed = λ delivered undelivered. absurd (false≢true (sym undelivered ∙ delivered));
+}
 
--- the bytes of a read: those that were kept, and those past the limit
-pub bytes_read : (bytes more : List ℕ) (count least : ℕ) → least ≤ count → bytes ++ take count more ≡ (bytes ++ take least more) ++ drop least (take count more)
-bytes_read bytes more count least fits =
-    sym (ap (λ l. (bytes ++ l) ++ drop least (take count more)) (sym (take-take least count more fits))
-    ∙ append_assoc bytes (take least (take count more)) (drop least (take count more))
-    ∙ ap (λ l. bytes ++ l) (take-append-drop least (take count more)))
+-- a run has ended over a script that its reader had
+pub Ran-ended : {L W H : Type 0} (contents : W → Option (List ℕ)) (state : H → HostState) (first now : LineRunner L W H) (reader left : Option (List ℕ)) (ended : Result Outcome ShellFault)
+    → Ends (λ parts. EndsRun contents state first now parts ended) 10 reader
+    → Ran (options_of first.options) reader left (state_of contents state first) (state_of contents state now) ended
+Ran-ended contents state first now reader left (Ok outcome) ends =
+    let (after, ran, accepted, refused, unfailed) = ends.here.ran in
+    record {
+      script = ends.input;
+      all = ends.all;
+      after = after;
+      ran = subst (λ (l : List (List ℕ)). RanLines (options_of first.options) (state_of contents state first) (state_of contents state now) l after) (sym (lines_of-parts ends.input)) ran;
+      accepted = accepted;
+      refused = refused;
+    }
+Ran-ended contents state first now reader left (Err fault) ends =
+    subst (λ (f : ShellFault). Ran (options_of first.options) reader left (state_of contents state first) (state_of contents state now) (Err f)) (sym ends.here.ran.0)
+    (record {
+      script = ends.input;
+      all = ends.all;
+      stopped = subst (StoppedAt (options_of first.options) (state_of contents state first) (state_of contents state now)) (sym (lines_of-parts ends.input)) ends.here.ran.1;
+    })
 
-pub Consumes-read : (a b c : Option (List ℕ)) (bytes more : List ℕ) (count least room : ℕ) → Consumes a b bytes → Consumes b c (take count more) → least ≡ min count room
-    → Consumes a c ((bytes ++ take least more) ++ drop least (take count more))
-Consumes-read a b c bytes more count least room before read is =
-    subst (Consumes a c) (bytes_read bytes more count least (omega (arith, is))) (Consumes-trans a b c bytes (take count more) before read)
+-- reading failed, or passed a limit
+pub RanRead-by : {L W H : Type 0} (contents : W → Option (List ℕ)) (state : H → HostState) (first now : LineRunner L W H) (reader left : Option (List ℕ)) (consumed : List ℕ)
+    → Consumes reader left consumed → HasCome (HasRun contents state first now) 10 (take script_limit consumed)
+    → RanRead (options_of first.options) reader left (state_of contents state first) (state_of contents state now)
+RanRead-by contents state first now reader left consumed lost come =
+    let after = progress_of now.tally (world_of (state now.host.now) now.session.now) in
+    record {
+      consumed = consumed;
+      lost = lost;
+      after = after;
+      ran = subst (λ (l : List (List ℕ)). RanLines (options_of first.options) (state_of contents state first) (state_of contents state now) l after)
+          (sym (ended_lines-come (HasRun contents state first now) (take script_limit consumed) come)) come.here.ran;
+      open_run = come.here.open_run;
+    }
 
--- a read past the limit fills the script up to it
-pub take_limit : (bytes more : List ℕ) (count least room : ℕ) → length bytes + room ≡ script_limit → room < count → least ≡ min count room
-    → take script_limit (bytes ++ take count more) ≡ bytes ++ take least more
-take_limit bytes more count least room full over is =
-    let same : room ≡ least = omega (arith, over, is) in
-    ap (λ n. take n (bytes ++ take count more)) (sym full) ∙ take-append-add bytes (take count more) room
-    ∙ ap (λ l. bytes ++ l) (take-take room count more (omega (arith, over))) ∙ ap (λ n. bytes ++ take n more) same
+-- a run that has ended without a failed read
+pub EndsWith-ended : {L W H : Type 0} (contents : W → Option (List ℕ)) (state : H → HostState) (first now : LineRunner L W H) (parts : List (List ℕ)) (ended : Result Outcome ShellFault) (input : Reading)
+    → EndsRun contents state first now parts ended → input.has_failed ≡ false → EndsWith ended input now.output.now.has_failed
+EndsWith-ended contents state first now parts (Ok outcome) input ends read = let (after, ran, accepted, refused, unfailed) = ends.ran in (read, unfailed)
+EndsWith-ended contents state first now parts (Err fault) input ends read =
+    subst (λ (f : ShellFault). EndsWith (Err f) input now.output.now.has_failed) (sym ends.ran.0) (read, ends.ran.2)
 
--- a read within the limit is kept whole
-pub Consumes-fits : (a b c : Option (List ℕ)) (bytes more : List ℕ) (count least room : ℕ) → Consumes a b bytes → Consumes b c (take count more)
-    → count ≤ room → least ≡ min count room → Consumes a c (bytes ++ take least more)
-Consumes-fits a b c bytes more count least room before read fits is =
-    let same : count ≡ least = omega (arith, fits, is) in
-    subst (Consumes a c) (ap (λ n. bytes ++ take n more) same) (Consumes-trans a b c bytes (take count more) before read)
+-- what the output shows of a run that has ended
+pub written_by : {L W H : Type 0} (contents : W → Option (List ℕ)) (state : H → HostState) (first now : LineRunner L W H) (parts : List (List ℕ)) (ended : Result Outcome ShellFault)
+    → EndsRun contents state first now parts ended → OnOk ended (now.output.now.has_failed ≡ false)
+written_by contents state first now parts (Ok outcome) ends = let (after, ran, accepted, refused, unfailed) = ends.ran in unfailed
+written_by contents state first now parts (Err fault) ends = tt
 
-pub length-read : (bytes more : List ℕ) (count least room : ℕ) → length bytes + room ≡ script_limit → count ≤ length more → count ≤ room → least ≡ min count room
-    → length (bytes ++ take least more) + (room - count) ≡ script_limit
-length-read bytes more count least room full held fits is =
-    omega (arith, full, held, fits, is, length-append bytes (take least more), length-take least more)
+pub failed_by : {L W H : Type 0} (contents : W → Option (List ℕ)) (state : H → HostState) (first now : LineRunner L W H) (parts : List (List ℕ)) (ended : Result Outcome ShellFault)
+    → EndsRun contents state first now parts ended → ended ≡ Err Write → now.output.now.has_failed ≡ true
+failed_by contents state first now parts (Ok outcome) ends is = cc
+failed_by contents state first now parts (Err fault) ends is = ends.ran.2
 
--- a run that ends with its script has read it without a failure, and is a fault if a write has
--- failed
-pub EndsWith-last : (options : RunOptions) (first reached : ScriptState) (script : List ℕ) (ended : Result Outcome ShellFault) (input : Reading) (old new : Bool)
-    → EndsRun options first reached script ended → input.has_failed ≡ false → old ≡ false → FailsWith ended old new → EndsWith ended input new
-EndsWith-last options first reached script (Ok outcome) input old new ends read written same = (read, same ∙ written)
-EndsWith-last options first reached script (Err fault) input old new ends read written failed =
-    subst (λ (fault : ShellFault). EndsWith (Err fault) input new) (sym ends.0) (read, failed)
+-- it has not ended because its script cannot be read
+pub never_read : {L W H : Type 0} (contents : W → Option (List ℕ)) (state : H → HostState) (first now : LineRunner L W H) (parts : List (List ℕ)) (ended : Result Outcome ShellFault) (P : Type 0)
+    → EndsRun contents state first now parts ended → ended ≡ Err Read → P
+never_read contents state first now parts (Ok outcome) P ends is = cc
+never_read contents state first now parts (Err fault) P ends is = let other : fault ≡ Write = ends.ran.0 in cc

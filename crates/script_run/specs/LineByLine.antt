@@ -1,13 +1,13 @@
--- How far a run has come in a script that it reads piece by piece.
-use Rattle.std.specs.Prelude.{◌≡◌, ℕ, true, false, List, ◌++◌, filter, MatchBool, MatchResult, Result}
-use Rattle.script_text.specs.HeldLine.{Holds, IsOpen}
-use Rattle.script_text.specs.Output.{AppendsPart}
+-- How far a run has come in a script that it reads part by part.
+use Rattle.std.specs.Prelude.{◌≡◌, ℕ, ◌+◌, ◌<◌, true, false, List, [], ◌∷◌, ◌++◌, map, Option, MatchResult, Result}
 use Rattle.std.specs.Io.KnownBytes.{Appends}
-use Rattle.script_text.specs.RawLines.{is_ended, lines_of}
-use Rattle.script_commands.specs.Act.{World}
+use Rattle.host_storage.specs.Files.{HostState}
+use Rattle.script_text.specs.HeldLine.{Holds}
+use Rattle.script_text.specs.Output.{AppendsPart}
+use Rattle.script_commands.specs.Act.{World, world_of}
 use Rattle.script_run.specs.Transcript.{RunOptions, RunProgress, Line}
-use Rattle.script_run.specs.Runner.{ScriptState, RanLines, StoppedAt}
-use Rattle.script_text.specs.declared.held_line.HeldLine.{HeldLine}
+use Rattle.script_run.specs.Runner.{ScriptState, RanLines, StoppedAt, options_of, script_state}
+use Rattle.script_run.specs.declared.runner.LineRunner.{LineRunner}
 use Rattle.script_run.specs.declared.runner.Tally.{Tally}
 use Rattle.script_run.specs.declared.runner.Outcome.{Outcome}
 use Rattle.script_run.specs.declared.runner.ShellFault.{ShellFault}
@@ -17,39 +17,54 @@ use Rattle.script_run.specs.declared.runner.ShellFault.TheVariants.{Write}
 abbrev pub progress_of : Tally → World → RunProgress
 progress_of tally world = record { world = world; closed = tally.closed; accepted = tally.outcome.accepted; refused = tally.outcome.refused }
 
--- the first bytes of a script are cut into lines that are ended, and the beginning of a line that
--- goes on with whatever comes next
-pub record AreCutInto (bytes : List ℕ) (lines : List (List ℕ)) (begun : List ℕ) : Type 0 where
-  pub ended : filter is_ended lines ≡ lines
-  pub is_open : IsOpen begun
-  pub goes_on : (more : List ℕ) → lines_of (bytes ++ more) ≡ lines ++ lines_of (begun ++ more)
+-- a part of a script with the LF that ended it
+abbrev pub ended_line : List ℕ → List ℕ
+ended_line part = part ++ 10 ∷ []
 
--- an open run has come through the first bytes of a script: their ended lines have run, and the
--- rest of them is held
-pub record ScriptHasCome (options : RunOptions) (first reached : ScriptState) (tally : Tally) (line : HeldLine) (bytes : List ℕ) : Type 0 where
-  pub lines : List (List ℕ)
-  pub begun : List ℕ
-  pub cut : AreCutInto bytes lines begun
-  pub ran : RanLines options first reached lines (progress_of tally reached.world)
-  pub held : Holds line begun
-  pub open_run : tally.closed ≡ false
+-- the raw lines of a script that has these parts between its LFs: the last part has none, and is no
+-- line if it is empty
+abbrev pub lines_in : List (List ℕ) → List (List ℕ)
+lines_in [] = []
+lines_in ([] ∷ []) = []
+lines_in ((byte ∷ rest) ∷ []) = (byte ∷ rest) ∷ []
+lines_in (part ∷ next ∷ more) = ended_line part ∷ lines_in (next ∷ more)
 
--- the run has ended: it has run the script, whatever comes after these first bytes
-pub record HasClosed (options : RunOptions) (first reached : ScriptState) (tally : Tally) (bytes : List ℕ) : Type 0 where
-  pub ran : (more : List ℕ) → RanLines options first reached (lines_of (bytes ++ more)) (progress_of tally reached.world)
-  pub closed_run : tally.closed ≡ true
+-- how many lines were counted
+abbrev pub count_of : {L W H : Type 0} → LineRunner L W H → ℕ
+count_of run = run.tally.outcome.accepted + run.tally.outcome.refused
 
--- a run has come through the first bytes of a script, or has ended among them
-abbrev pub ComesTo : RunOptions → ScriptState → ScriptState → Tally → HeldLine → List ℕ → Type 0
-ComesTo options first reached tally line bytes =
-    MatchBool tally.closed (HasClosed options first reached tally bytes) (ScriptHasCome options first reached tally line bytes)
+-- what the writer has, and the world
+abbrev pub state_of : {L W H : Type 0} → (W → Option (List ℕ)) → (H → HostState) → LineRunner L W H → ScriptState
+state_of contents state run = script_state (contents run.output.now.writer.now) (world_of (state run.host.now) run.session.now)
 
--- the run ends with its script: all lines have run, or a write failed at one of them
-abbrev pub EndsRun : RunOptions → ScriptState → ScriptState → List ℕ → Result Outcome ShellFault → Type 0
-EndsRun options first reached script ended =
-    MatchResult ended
-    (λ outcome. (after : RunProgress) × RanLines options first reached (lines_of script) after × (outcome.accepted ≡ after.accepted) × (outcome.refused ≡ after.refused))
-    (λ fault. (fault ≡ Write) × StoppedAt options first reached (lines_of script))
+-- a run that goes on has its options, and what it was lent
+pub record KeepsRun {L W H : Type 0} (first now : LineRunner L W H) : Type 0 where
+  pub options : now.options ≡ first.options
+  pub observer : now.observer.ghost_name ≡ first.observer.ghost_name
+  pub output : now.output.ghost_name ≡ first.output.ghost_name
+  pub writer : now.output.now.writer.ghost_name ≡ first.output.now.writer.ghost_name
+  pub host : now.host.ghost_name ≡ first.host.ghost_name
+  pub session : now.session.ghost_name ≡ first.session.ghost_name
+
+-- an open run has come through these parts of a script, each of which is a line that has run, and
+-- holds the bytes of the next one; if something is not delivered that was, a line has printed it
+pub record HasRun {L W H : Type 0} (contents : W → Option (List ℕ)) (state : H → HostState) (first now : LineRunner L W H) (parts : List (List ℕ)) (begun : List ℕ) : Type 0 where
+  pub keeps : KeepsRun first now
+  pub ran : RanLines (options_of first.options) (state_of contents state first) (state_of contents state now) (map ended_line parts)
+      (progress_of now.tally (world_of (state now.host.now) now.session.now))
+  pub held : Holds now.line begun
+  pub open_run : now.tally.closed ≡ false
+  pub unfailed : now.output.now.has_failed ≡ false
+  pub observed : first.output.now.is_delivered ≡ true → now.output.now.is_delivered ≡ false → 0 < count_of now
+
+-- the run ends: all lines have run, or a write failed at one of them
+pub record EndsRun {L W H : Type 0} (contents : W → Option (List ℕ)) (state : H → HostState) (first now : LineRunner L W H) (parts : List (List ℕ)) (ended : Result Outcome ShellFault) : Type 0 where
+  pub keeps : KeepsRun first now
+  pub ran : MatchResult ended
+      (λ outcome. (after : RunProgress) × RanLines (options_of first.options) (state_of contents state first) (state_of contents state now) (lines_in parts) after
+      × (outcome.accepted ≡ after.accepted) × (outcome.refused ≡ after.refused) × (now.output.now.has_failed ≡ false))
+      (λ fault. (fault ≡ Write) × StoppedAt (options_of first.options) (state_of contents state first) (state_of contents state now) (lines_in parts)
+      × (now.output.now.has_failed ≡ true))
 
 -- a line of an open run has run, and what it prints was written
 pub record RunsLine (options : RunOptions) (line : List ℕ) (old new : ScriptState) (before after : Tally) : Type 0 where

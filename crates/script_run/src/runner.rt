@@ -1,32 +1,30 @@
 //! A script, from its bytes to the bytes of its output, line by line.
-ghost use Rattle.std.specs.Prelude.{◌≡◌, ◌≤◌, ◌<◌, ◌^◌, ◌+◌, ◌++◌, [], true, false, ℕ, List, length, Some, Err, MatchOption, OnOk, OnErr};
-ghost use Rattle.std.specs.Io.KnownBytes.{Keeps};
-ghost use Rattle.script_text.specs.HeldLine.{Holds, Says};
+ghost use Rattle.std.specs.Prelude.{◌≡◌, ◌≤◌, ◌<◌, ◌^◌, ◌+◌, [], true, false, ℕ, List, length, Some, Err, MatchResult, OnOk, OnErr};
+ghost use Rattle.std.specs.Io.KnownBytes.{Appends, Keeps};
+ghost use Rattle.script_text.specs.HeldLine.{Says};
 ghost use Rattle.script_text.specs.Input.{IsUnread, reading_of};
-ghost use Rattle.script_text.specs.Output.{FailsWith};
-ghost use Rattle.script_text.specs.RawLines.{lines_of};
+ghost use Rattle.script_text.specs.Output.{AppendsPart, FailsWith};
 ghost use Rattle.script_text.specs.Script.{script_limit};
 ghost use Rattle.d64_undo.specs.History.{present_image};
-ghost use Rattle.script_commands.specs.Act.{world_of};
-ghost use Rattle.script_commands.specs.Line.{IsSkipped, IsAnswered};
+ghost use Rattle.script_commands.specs.Act.{printed_bytes, world_of};
 ghost use Rattle.script_commands.specs.Response.{shown_answer};
-ghost use Rattle.script_run.specs.Runner.{ScriptState, options_of, script_state, Ran, StoppedAt, EndsWith};
+ghost use Rattle.script_run.specs.Runner.{EndsWith, Ran, options_of, script_state};
 ghost use Rattle.script_run.specs.Transcript.{going_on};
-ghost use Rattle.script_run.specs.LineByLine.{ScriptHasCome, ComesTo, EndsRun, RunsLine, StopsInLine};
+ghost use Rattle.script_run.specs.LineByLine.{EndsRun, HasRun, KeepsRun, RunsLine, StopsInLine, count_of, state_of};
 
 use crate::observer::{Nobody, Observer};
 use crate::run_options::{Refusals, RunOptions};
 use d64_undo::Session;
 use host_storage::Host;
 use script_commands::{Response, answer_line};
+use script_parts::{CutShort, PartHandler, cut_text, read_parts};
 use script_text::held_line::HeldLine;
 use script_text::input::InputStream;
 use script_text::output::{OutputStream, WriteFault};
-use script_text::raw_lines::{RawLines, before_end, is_ended};
-use script_text::script::{READ_BYTES, SCRIPT_BYTES, SCRIPT_READS};
 use script_text::status::Status;
 use std::alloc::{AllocError, Global};
 use std::io::{Read, Write};
+use std::ops::ControlFlow;
 use thiserror::Error;
 
 /// How many lines of a script were accepted and refused. Skipped lines count as neither.
@@ -94,67 +92,17 @@ impl Tally {
     }
 }
 
-/// How far a run has come in its script: the bytes of the next line, the counts of the lines before
-/// it, and the observer.
+/// A run of a script: how far it has come, and what it was lent.
 #[derive(Drop)]
-struct RunState<'l, L: Observer> {
-    line: HeldLine,
-    tally: Tally,
-    observer: &'l mut L,
-}
-
-impl<'l, L: Observer> RunState<'l, L> {
-    ghost use Rattle.std.specs.Prelude.{[]};
-    ghost use Rattle.script_text.specs.HeldLine.{Holds};
-    ghost use Rattle.script_text.specs.Output.{AppendsPart};
-    ghost use Rattle.script_commands.specs.Act.{printed_bytes};
-    ghost use Rattle.std.specs.Io.KnownBytes.{Appends};
-
-    /// The state before anything was read.
-    fn new(observer: &'l mut L) -> RunState<'l, L>
-        ensures lent { result.observer.ghost_name ≡ observer.entry.ghost_name }
-        ensures line { Holds result.line [] }
-        ensures tally { result.tally ≡ record { outcome = record { accepted = 0; refused = 0 }; closed = false } }
-    {
-        RunState {
-            line: HeldLine::new(),
-            tally: Tally::new(),
-            observer,
-        }
-    }
-
-    /// Writes the response to a line that left this session, and calls the observer, after a
-    /// delivery if the observer needs it.
-    fn write_answer<W: Write>(
-        &mut self,
-        home: &str,
-        response: &Response,
-        output: &mut OutputStream<'_, W>,
-        session: &Session,
-    ) -> Result<(), WriteFault>
-        ensures lent { self.new.observer.ghost_name ≡ self.old.observer.ghost_name }
-        ensures line { self.new.line ≡ self.old.line }
-        ensures tally { self.new.tally ≡ self.old.tally }
-        ensures same { output.new.writer.ghost_name ≡ output.old.writer.ghost_name }
-        ensures ok { OnOk result (Appends (W.contents output.old.writer.now) (W.contents output.new.writer.now) (printed_bytes (shown_answer (present_image session.now) response.now))) }
-        ensures err { OnErr result (AppendsPart (W.contents output.old.writer.now) (W.contents output.new.writer.now) (printed_bytes (shown_answer (present_image session.now) response.now))) }
-        ensures failed { FailsWith result output.old.has_failed output.new.has_failed }
-    {
-        response.write(output, session.image())?;
-        if self.observer.needs_delivery(&response.status) {
-            deliver(output)?;
-        }
-        self.observer
-            .observe(home, &self.line, &response.status, session);
-        Ok(())
-    }
-}
-
-/// What runs the lines of a script: memory, and how the script is run.
-#[derive(Clone, Copy)]
-struct LineRunner<'n> {
+struct LineRunner<'n, 'l, 'o, 'w, 'h, 's, L, W: Write, H> {
     alloc: Global,
     options: RunOptions<'n>,
+    observer: &'l mut L,
+    output: &'o mut OutputStream<'w, W>,
+    host: &'h mut H,
+    session: &'s mut Session,
+    line: HeldLine,
+    tally: Tally,
 }
 
 /// Runs a script. `home` is the name of the host file in which `save` stores by default, or empty.
@@ -278,12 +226,22 @@ impl<'n, 'l, L: Observer> ScriptRunner<'n, 'l, L> {
             result }
         ensures streams { EndsWith result (reading_of input.new.reads input.new.came input.new.has_failed) output.new.has_failed }
     {
-        let runner = LineRunner {
-            alloc: self.alloc,
-            options: self.options,
+        let ScriptRunner {
+            alloc,
+            options,
+            observer,
+        } = self;
+        let mut runner = LineRunner {
+            alloc,
+            options,
+            observer,
+            output,
+            host,
+            session,
+            line: HeldLine::new(),
+            tally: Tally::new(),
         };
-        let mut state = RunState::new(self.observer);
-        runner.run_all(input, output, host, session, &mut state)
+        runner.read(input)
     }
 
     /// Runs this text as a script, and prints to an output that has not failed.
@@ -312,9 +270,17 @@ impl<'n, 'l, L: Observer> ScriptRunner<'n, 'l, L> {
             options,
             observer,
         } = self;
-        let runner = LineRunner { alloc, options };
-        let mut state = RunState::new(observer);
-        runner.run_lines(output, host, session, &mut state, text)
+        let mut runner = LineRunner {
+            alloc,
+            options,
+            observer,
+            output,
+            host,
+            session,
+            line: HeldLine::new(),
+            tally: Tally::new(),
+        };
+        runner.cut(text)
     }
 }
 
@@ -332,201 +298,161 @@ fn deliver<W: Write>(output: &mut OutputStream<'_, W>) -> Result<(), WriteFault>
     output.flush()
 }
 
-impl<'n> LineRunner<'n> {
+/// Writes the response to a line that left this session, and calls the observer, after a delivery
+/// if the observer needs it.
+fn write_answer<L: Observer, W: Write>(
+    observer: &mut L,
+    home: &str,
+    line: &HeldLine,
+    response: &Response,
+    output: &mut OutputStream<'_, W>,
+    session: &Session,
+) -> Result<(), WriteFault>
+    ensures same { output.new.writer.ghost_name ≡ output.old.writer.ghost_name }
+    ensures ok { OnOk result (Appends (W.contents output.old.writer.now) (W.contents output.new.writer.now) (printed_bytes (shown_answer (present_image session.now) response.now))) }
+    ensures err { OnErr result (AppendsPart (W.contents output.old.writer.now) (W.contents output.new.writer.now) (printed_bytes (shown_answer (present_image session.now) response.now))) }
+    ensures failed { FailsWith result output.old.has_failed output.new.has_failed }
+{
+    response.write(output, session.image())?;
+    if observer.needs_delivery(&response.status) {
+        deliver(output)?;
+    }
+    observer.observe(home, line, &response.status, session);
+    Ok(())
+}
+
+impl<'n, 'l, 'o, 'w, 'h, 's, L: Observer, W: Write, H: Host> LineRunner<
+    'n,
+    'l,
+    'o,
+    'w,
+    'h,
+    's,
+    L,
+    W,
+    H,
+> {
     /// Runs the script of an input of which nothing was read.
-    fn run_all<R: Read, W: Write, H: Host, L: Observer>(
-        self,
-        input: &mut InputStream<'_, R>,
-        output: &mut OutputStream<'_, W>,
-        host: &mut H,
-        session: &mut Session,
-        state: &mut RunState<'_, L>,
-    ) -> Result<Outcome, ShellFault>
+    fn read<R: Read>(&mut self, input: &mut InputStream<'_, R>) -> Result<Outcome, ShellFault>
         requires unread { IsUnread (reading_of input.old.reads input.old.came input.old.has_failed) }
-        requires unfailed { output.old.has_failed ≡ false }
-        requires delivered { output.old.is_delivered ≡ true }
-        requires line { Holds state.old.line [] }
-        requires tally { state.old.tally ≡ record { outcome = record { accepted = 0; refused = 0 }; closed = false } }
-        ensures lent { state.new.observer.ghost_name ≡ state.old.observer.ghost_name }
+        requires delivered { self.old.output.now.is_delivered ≡ true }
+        requires begun { HasRun W.contents H.state self.old self.old [] [] }
+        requires few { count_of self.old ≡ 0 }
         ensures input { input.new.reader.ghost_name ≡ input.old.reader.ghost_name }
-        ensures output { output.new.writer.ghost_name ≡ output.old.writer.ghost_name }
-        ensures ran { Ran (options_of self.entry.options) (R.remaining input.old.reader.now) (R.remaining input.new.reader.now)
-            (script_state (W.contents output.old.writer.now) (world_of (H.state host.old) session.old))
-            (script_state (W.contents output.new.writer.now) (world_of (H.state host.new) session.new))
-            result }
-        ensures streams { EndsWith result (reading_of input.new.reads input.new.came input.new.has_failed) output.new.has_failed }
+        ensures kept { KeepsRun self.old self.new }
+        ensures ran { Ran (options_of self.old.options) (R.remaining input.old.reader.now) (R.remaining input.new.reader.now)
+            (state_of W.contents H.state self.old) (state_of W.contents H.state self.new) result }
+        ensures streams { EndsWith result (reading_of input.new.reads input.new.came input.new.has_failed) self.new.output.now.has_failed }
     {
-        let mut room = SCRIPT_BYTES;
-        let mut buffer = [0; READ_BYTES];
-        for _ in 0..SCRIPT_READS {
-            let Ok(()) = deliver(output) else {
-                return Err(ShellFault::Write);
-            };
-            state.observer.wait(session.image());
-            let count = match input.read_after(output, &mut buffer) {
-                Ok(0) => return self.run_last(output, host, session, state),
-                Ok(count) => count,
-                Err(_) => return Err(ShellFault::Read),
-            };
-            let piece = &buffer[..count.min(room)];
-            let Ok(()) = self.run_piece(output, host, session, state, piece) else {
-                return Err(ShellFault::Write);
-            };
-            if state.tally.closed {
-                return Ok(state.tally.outcome);
-            }
-            if count > room {
-                return Err(ShellFault::Read);
-            }
-            room -= count;
+        match read_parts(input, b'\n', self) {
+            Ok(ended) => ended,
+            Err(CutShort) => Err(ShellFault::Read),
         }
-        Err(ShellFault::Read)
     }
 
     /// Runs this text as a script, up to the most bytes that a script has.
-    fn run_lines<W: Write, H: Host, L: Observer>(
-        self,
-        output: &mut OutputStream<'_, W>,
-        host: &mut H,
-        session: &mut Session,
-        state: &mut RunState<'_, L>,
-        text: &[u8],
-    ) -> Result<Outcome, ShellFault>
-        requires unfailed { output.old.has_failed ≡ false }
-        requires line { Holds state.old.line [] }
-        requires tally { state.old.tally ≡ record { outcome = record { accepted = 0; refused = 0 }; closed = false } }
-        ensures lent { state.new.observer.ghost_name ≡ state.old.observer.ghost_name }
-        ensures output { output.new.writer.ghost_name ≡ output.old.writer.ghost_name }
-        ensures ran { Ran (options_of self.entry.options) (Some text.now) (Some [])
-            (script_state (W.contents output.old.writer.now) (world_of (H.state host.old) session.old))
-            (script_state (W.contents output.new.writer.now) (world_of (H.state host.new) session.new))
-            result }
-        ensures written { OnOk result (output.new.has_failed ≡ false) }
-        ensures failed { result ≡ Err ShellFault.Write → output.new.has_failed ≡ true }
+    fn cut(&mut self, text: &[u8]) -> Result<Outcome, ShellFault>
+        requires begun { HasRun W.contents H.state self.old self.old [] [] }
+        requires few { count_of self.old ≡ 0 }
+        ensures kept { KeepsRun self.old self.new }
+        ensures ran { Ran (options_of self.old.options) (Some text.now) (Some [])
+            (state_of W.contents H.state self.old) (state_of W.contents H.state self.new) result }
+        ensures written { OnOk result (self.new.output.now.has_failed ≡ false) }
+        ensures failed { result ≡ Err ShellFault.Write → self.new.output.now.has_failed ≡ true }
         ensures long { result ≡ Err ShellFault.Read → script_limit < length text.now }
     {
-        let piece = &text[..text.len().min(SCRIPT_BYTES)];
-        match self.run_piece(output, host, session, state, piece) {
-            Ok(()) => {}
-            Err(_) => return Err(ShellFault::Write),
-        }
-        if state.tally.closed {
-            return Ok(state.tally.outcome);
-        }
-        if text.len() > SCRIPT_BYTES {
-            return Err(ShellFault::Read);
-        }
-        self.run_last(output, host, session, state)
-    }
-
-    /// Runs the line that ends with the script, if bytes of it were read.
-    fn run_last<W: Write, H: Host, L: Observer>(
-        self,
-        output: &mut OutputStream<'_, W>,
-        host: &mut H,
-        session: &mut Session,
-        state: &mut RunState<'_, L>,
-    ) -> Result<Outcome, ShellFault>
-        requires { state.old.tally.outcome.accepted + state.old.tally.outcome.refused ≤ 2 ^ 32 }
-        ensures lent { state.new.observer.ghost_name ≡ state.old.observer.ghost_name }
-        ensures same { output.new.writer.ghost_name ≡ output.old.writer.ghost_name }
-        ensures failed { FailsWith result output.old.has_failed output.new.has_failed }
-        ensures ended { (first : ScriptState) (script : List ℕ)
-            → ScriptHasCome (options_of self.entry.options) first
-            (script_state (W.contents output.old.writer.now) (world_of (H.state host.old) session.old))
-            state.old.tally state.old.line script
-            → EndsRun (options_of self.entry.options) first
-            (script_state (W.contents output.new.writer.now) (world_of (H.state host.new) session.new))
-            script result }
-    {
-        state.observer.reach_end();
-        if state.line.is_empty() {
-            return Ok(state.tally.outcome);
-        }
-        state.line.end_with_script();
-        match self.run_line(output, host, session, state) {
-            Ok(()) => Ok(state.tally.outcome),
-            Err(_) => Err(ShellFault::Write),
+        match cut_text(text, b'\n', self) {
+            Ok(ended) => ended,
+            Err(CutShort) => Err(ShellFault::Read),
         }
     }
 
-    /// Runs the lines that end in the next piece of the script, up to the run's end, and holds what
-    /// comes after the last one.
-    fn run_piece<W: Write, H: Host, L: Observer>(
-        self,
-        output: &mut OutputStream<'_, W>,
-        host: &mut H,
-        session: &mut Session,
-        state: &mut RunState<'_, L>,
-        piece: &[u8],
-    ) -> Result<(), WriteFault>
-        requires { state.old.tally.outcome.accepted + state.old.tally.outcome.refused + length piece.now ≤ 2 ^ 32 }
-        ensures lent { state.new.observer.ghost_name ≡ state.old.observer.ghost_name }
-        ensures same { output.new.writer.ghost_name ≡ output.old.writer.ghost_name }
-        ensures failed { FailsWith result output.old.has_failed output.new.has_failed }
-        ensures few { state.new.tally.outcome.accepted + state.new.tally.outcome.refused ≤ state.old.tally.outcome.accepted + state.old.tally.outcome.refused + length piece.now }
-        ensures observed { output.new.is_delivered ≡ false → output.old.is_delivered ≡ true → 0 < state.new.tally.outcome.accepted + state.new.tally.outcome.refused }
-        ensures came { (first : ScriptState) (before : List ℕ)
-            → ScriptHasCome (options_of self.entry.options) first
-            (script_state (W.contents output.old.writer.now) (world_of (H.state host.old) session.old))
-            state.old.tally state.old.line before
-            → OnOk result (ComesTo (options_of self.entry.options) first
-            (script_state (W.contents output.new.writer.now) (world_of (H.state host.new) session.new))
-            state.new.tally state.new.line (before ++ piece.now)) }
-        ensures stopped { (first : ScriptState) (before : List ℕ)
-            → ScriptHasCome (options_of self.entry.options) first
-            (script_state (W.contents output.old.writer.now) (world_of (H.state host.old) session.old))
-            state.old.tally state.old.line before
-            → OnErr result ((more : List ℕ) → StoppedAt (options_of self.entry.options) first
-            (script_state (W.contents output.new.writer.now) (world_of (H.state host.new) session.new))
-            (lines_of ((before ++ piece.now) ++ more))) }
+    /// Runs the line that is held, which was read to its end, and writes its response.
+    fn run_line(&mut self) -> Result<(), WriteFault>
+        requires few { count_of self.old < 2 ^ 63 }
+        ensures kept { KeepsRun self.old self.new }
+        ensures failed { FailsWith result self.old.output.now.has_failed self.new.output.now.has_failed }
+        ensures count { (count_of self.old ≤ count_of self.new) × (count_of self.new ≤ count_of self.old + 1) }
+        ensures observed { self.new.output.now.is_delivered ≡ false → self.old.output.now.is_delivered ≡ true → 0 < count_of self.new }
+        ensures ran { (raw : List ℕ) → Says self.old.line raw → self.old.tally.closed ≡ false → MatchResult result
+            (λ _. RunsLine (options_of self.old.options) raw (state_of W.contents H.state self.old) (state_of W.contents H.state self.new) self.old.tally self.new.tally)
+            (λ _. StopsInLine (options_of self.old.options) raw (state_of W.contents H.state self.old) (state_of W.contents H.state self.new) self.old.tally) }
     {
-        for part in RawLines(piece) {
-            state.line.push(before_end(part));
-            state.observer.take(before_end(part));
-            if !is_ended(part) {
-                continue;
-            }
-            state.line.end_with_line_feed();
-            self.run_line(output, host, session, state)?;
-            if state.tally.closed {
-                return Ok(());
-            }
-            state.line.clear();
-        }
-        Ok(())
-    }
-
-    /// Runs a line that was read to its end, and writes its response.
-    fn run_line<W: Write, H: Host, L: Observer>(
-        self,
-        output: &mut OutputStream<'_, W>,
-        host: &mut H,
-        session: &mut Session,
-        state: &mut RunState<'_, L>,
-    ) -> Result<(), WriteFault>
-        requires { state.old.tally.outcome.accepted + state.old.tally.outcome.refused < 2 ^ 63 }
-        ensures lent { state.new.observer.ghost_name ≡ state.old.observer.ghost_name }
-        ensures same { output.new.writer.ghost_name ≡ output.old.writer.ghost_name }
-        ensures failed { FailsWith result output.old.has_failed output.new.has_failed }
-        ensures few { state.new.tally.outcome.accepted + state.new.tally.outcome.refused ≤ state.old.tally.outcome.accepted + state.old.tally.outcome.refused + 1 }
-        ensures more { state.old.tally.outcome.accepted + state.old.tally.outcome.refused ≤ state.new.tally.outcome.accepted + state.new.tally.outcome.refused }
-        ensures observed { output.new.is_delivered ≡ false → output.old.is_delivered ≡ true → 0 < state.new.tally.outcome.accepted + state.new.tally.outcome.refused }
-        ensures ran { (raw : List ℕ) → Says state.old.line raw → state.old.tally.closed ≡ false → OnOk result (RunsLine (options_of self.entry.options) raw
-            (script_state (W.contents output.old.writer.now) (world_of (H.state host.old) session.old))
-            (script_state (W.contents output.new.writer.now) (world_of (H.state host.new) session.new))
-            state.old.tally state.new.tally) }
-        ensures stopped { (raw : List ℕ) → Says state.old.line raw → state.old.tally.closed ≡ false → OnErr result (StopsInLine (options_of self.entry.options) raw
-            (script_state (W.contents output.old.writer.now) (world_of (H.state host.old) session.old))
-            (script_state (W.contents output.new.writer.now) (world_of (H.state host.new) session.new))
-            state.old.tally) }
-    {
-        let Some(response) = answer_line(self.alloc, host, self.options.home, session, &state.line)
+        let home = self.options.home;
+        let Some(response) = answer_line(self.alloc, self.host, home, self.session, &self.line)
         else {
-            state.observer.skip();
+            self.observer.skip();
             return Ok(());
         };
-        state.tally.count(&response, self.options.refusals);
-        state.write_answer(self.options.home, &response, output, session)
+        self.tally.count(&response, self.options.refusals);
+        write_answer(
+            self.observer,
+            home,
+            &self.line,
+            &response,
+            self.output,
+            self.session,
+        )
+    }
+}
+
+impl<'n, 'l, 'o, 'w, 'h, 's, L: Observer, W: Write, H: Host> PartHandler
+    for LineRunner<'n, 'l, 'o, 'w, 'h, 's, L, W, H> {
+    type End = Result<Outcome, ShellFault>;
+
+    type Writer = W;
+
+    ghost separator = { λ run. 10 };
+
+    ghost count = { count_of };
+
+    ghost has_come = { HasRun W.contents H.state };
+
+    ghost has_ended = { EndsRun W.contents H.state };
+
+    ghost is_delivered = { λ run. run.output.now.is_delivered ≡ true };
+
+    fn prepare(&mut self) -> ControlFlow<Result<Outcome, ShellFault>> {
+        match deliver(self.output) {
+            Ok(()) => {
+                self.observer.wait(self.session.image());
+                ControlFlow::Continue(())
+            }
+            Err(_) => ControlFlow::Break(Err(ShellFault::Write)),
+        }
+    }
+
+    fn output(&self) -> &OutputStream<'_, W> {
+        self.output
+    }
+
+    fn push(&mut self, bytes: &[u8]) {
+        self.line.push(bytes);
+        self.observer.take(bytes);
+    }
+
+    fn end_part(&mut self) -> ControlFlow<Result<Outcome, ShellFault>> {
+        self.line.end_with_line_feed();
+        match self.run_line() {
+            Ok(()) => {}
+            Err(_) => return ControlFlow::Break(Err(ShellFault::Write)),
+        }
+        if self.tally.closed {
+            return ControlFlow::Break(Ok(self.tally.outcome));
+        }
+        self.line.clear();
+        ControlFlow::Continue(())
+    }
+
+    fn end_input(&mut self) -> Result<Outcome, ShellFault> {
+        self.observer.reach_end();
+        if self.line.is_empty() {
+            return Ok(self.tally.outcome);
+        }
+        self.line.end_with_script();
+        match self.run_line() {
+            Ok(()) => Ok(self.tally.outcome),
+            Err(_) => Err(ShellFault::Write),
+        }
     }
 }

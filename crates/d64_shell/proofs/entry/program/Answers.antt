@@ -1,15 +1,17 @@
-use Rattle.std.proofs.Common.{rules}
+use Rattle.std.proofs.Common.{rules, false}
 use Rattle.script_text.specs.Input.{reading_of}
-use Rattle.d64_shell.proofs.ProgramRuns.{Ended-streams}
+use Rattle.d64_shell.proofs.ProgramRuns.{Ended-streams, outside_is}
 use Rattle.d64_shell.proofs.entry.program.Goals as goal
 
 -- the wrapped streams know how `reader` was read, and whether writing to `writer` or to `faults`
 -- failed
 pub returns-clause-ended : goal.returns-clause-ended
 returns-clause-ended g c = (
-  reading_of c.program_on.new.input.reads c.program_on.new.input.came c.program_on.new.input.has_failed,
-  c.program_on.new.output.has_failed,
-  c.program_on.new.faults.has_failed,
-  Ended-streams _ _ _ _ _ _ _ _ _ _ _ _ _ _ _ _ _ _ _ _ _ _ _ _ _
-      (search rules) c.new-input.ensures.unread (search rules) (search rules) (search rules) (search rules) (search rules) (search rules) (search rules) c.program_on.ensures.ended,
+  reading_of c.program_on.new.console.input.reads c.program_on.new.console.input.came c.program_on.new.console.input.has_failed,
+  c.program_on.new.console.outputs.output.has_failed,
+  c.program_on.new.console.outputs.faults.has_failed,
+  Ended-streams _ _ _ _ _ _ _ _ _ _ _ _ _ _
+      (outside_is _ (g.R.Read.remaining c.args.reader.now) _ (g.W.Write.contents c.args.writer.now) _ (g.F.Write.contents c.args.faults.now) _ (reading_of 0 0 false) _ false _ false (g.H.Host.state c.args.host.now)
+      (search rules) (search rules) (search rules) (search rules) (search rules) (search rules))
+      (search rules) (search rules) (search rules) c.program_on.ensures.ended,
 )

@@ -1,7 +1,8 @@
 -- The script has run from its beginning, and a flush of the output changes none of its bytes.
 use Rattle.std.proofs.Common.{◌≡◌, ◌∙◌, Ok, Err, inl, inr, refl, ap, option_copied, rules}
 use Rattle.cmd_shell.specs.Beginnings.{home_of, source_by}
-use Rattle.program_exit.specs.Outside.{Outside, outside_at}
+use Rattle.script_text.specs.Input.{reading_of}
+use Rattle.program_console.specs.Outside.{Outside, account_at, outside_at, outside_of}
 use Rattle.cmd_shell.specs.ShellRuns.{StoppedBy}
 use Rattle.program_exit.specs.Faults.{fault_of_run}
 use Rattle.cmd_shell.specs.Scripts.{beginning_in, options_in, source_in}
@@ -18,13 +19,15 @@ returns-in-Ok-clause-ran g c =
     let options : record { home = c.unwrap_or.result.now; refusals = job.refusals } ≡ options_in job =
     ap (λ h. record { home = h; refusals = job.refusals }) home in
     let source : source_by (option_copied c.as_deref.result) ≡ source_in job = search rules in
-    let old : Outside = outside_at g.R.Read.remaining c.args.input.now g.W.Write.contents c.args.output.now g.H.Host.state c.args.host.now in
-    let new : Outside = outside_at g.R.Read.remaining c.run-ran.new.input g.W.Write.contents c.flush.new.self g.H.Host.state c.run-ran.new.host in
+    let old : Outside = outside_at g.R.Read.remaining g.W.Write.contents g.F.Write.contents c.args.console.now (g.H.Host.state c.args.host.now) in
+    let ran_on = c.run-ran.new.console in
+    let new : Outside = outside_of (g.R.Read.remaining ran_on.input.reader.now) (reading_of ran_on.input.reads ran_on.input.came ran_on.input.has_failed)
+    (account_at g.W.Write.contents c.flush.new.self) (account_at g.F.Write.contents ran_on.outputs.faults) (g.H.Host.state c.run-ran.new.host) in
     let is : c.run-ran.result ≡ Ok c.in_ok-ran-in-Ok.field-0 = search rules in
     RanShell-flushed old new (Ok c.in_ok-ran-in-Ok.field-0) (beginning_in job) (source_in job) (source_by (option_copied c.as_deref.result))
     (options_in job) (record { home = c.unwrap_or.result.now; refusals = job.refusals })
     (g.H.Host.state c.first_session.new.host)
-    c.in_ok-session.session c.run-ran.new.session (g.W.Write.contents c.run-ran.new.output.writer.now)
+    c.in_ok-session.session c.run-ran.new.session (g.W.Write.contents c.run-ran.new.console.outputs.output.writer.now)
     c.in_ok-session.ensures.session source options (rw is at c.run-ran.ensures.ran) c.flush.ensures.kept
 
 -- up to a fault
@@ -36,13 +39,15 @@ returns-in_err-ran-in-Ok-clause-stopped g c =
     let options : record { home = c.unwrap_or.result.now; refusals = job.refusals } ≡ options_in job =
     ap (λ h. record { home = h; refusals = job.refusals }) home in
     let source : source_by (option_copied c.as_deref.result) ≡ source_in job = search rules in
-    let old : Outside = outside_at g.R.Read.remaining c.args.input.now g.W.Write.contents c.args.output.now g.H.Host.state c.args.host.now in
-    let new : Outside = outside_at g.R.Read.remaining c.run-ran.new.input g.W.Write.contents c.flush.new.self g.H.Host.state c.run-ran.new.host in
+    let old : Outside = outside_at g.R.Read.remaining g.W.Write.contents g.F.Write.contents c.args.console.now (g.H.Host.state c.args.host.now) in
+    let ran_on = c.run-ran.new.console in
+    let new : Outside = outside_of (g.R.Read.remaining ran_on.input.reader.now) (reading_of ran_on.input.reads ran_on.input.came ran_on.input.has_failed)
+    (account_at g.W.Write.contents c.flush.new.self) (account_at g.F.Write.contents ran_on.outputs.faults) (g.H.Host.state c.run-ran.new.host) in
     let is : c.run-ran.result ≡ Err c.in_err-ran-in-Ok.field-0.0 = search rules in
     let ran = RanShell-flushed old new (Err c.in_err-ran-in-Ok.field-0.0) (beginning_in job) (source_in job) (source_by (option_copied c.as_deref.result))
     (options_in job) (record { home = c.unwrap_or.result.now; refusals = job.refusals })
     (g.H.Host.state c.first_session.new.host)
-    c.in_ok-session.session c.run-ran.new.session (g.W.Write.contents c.run-ran.new.output.writer.now)
+    c.in_ok-session.session c.run-ran.new.session (g.W.Write.contents c.run-ran.new.console.outputs.output.writer.now)
     c.in_ok-session.ensures.session source options (rw is at c.run-ran.ensures.ran) c.flush.ensures.kept in
     IfErr-of_error c.from_residual-in_err-ran-in-Ok.result (fault_of_run c.in_err-ran-in-Ok.field-0.0)
     (λ fault. StoppedBy fault (beginning_in job) (source_in job) (options_in job) old new)
@@ -57,14 +62,16 @@ returns-clause-stopped g c =
     let options : record { home = c.unwrap_or.result.now; refusals = job.refusals } ≡ options_in job =
     ap (λ h. record { home = h; refusals = job.refusals }) home in
     let source : source_by (option_copied c.as_deref.result) ≡ source_in job = search rules in
-    let old : Outside = outside_at g.R.Read.remaining c.args.input.now g.W.Write.contents c.args.output.now g.H.Host.state c.args.host.now in
-    let new : Outside = outside_at g.R.Read.remaining c.run-ran.new.input g.W.Write.contents c.flush.new.self g.H.Host.state c.run-ran.new.host in
+    let old : Outside = outside_at g.R.Read.remaining g.W.Write.contents g.F.Write.contents c.args.console.now (g.H.Host.state c.args.host.now) in
+    let ran_on = c.run-ran.new.console in
+    let new : Outside = outside_of (g.R.Read.remaining ran_on.input.reader.now) (reading_of ran_on.input.reads ran_on.input.came ran_on.input.has_failed)
+    (account_at g.W.Write.contents c.flush.new.self) (account_at g.F.Write.contents ran_on.outputs.faults) (g.H.Host.state c.run-ran.new.host) in
     inr (inr (
       c.run-ran.result,
       RanShell-flushed old new c.run-ran.result (beginning_in job) (source_in job) (source_by (option_copied c.as_deref.result))
           (options_in job) (record { home = c.unwrap_or.result.now; refusals = job.refusals })
           (g.H.Host.state c.first_session.new.host)
-          c.in_ok-session.session c.run-ran.new.session (g.W.Write.contents c.run-ran.new.output.writer.now)
+          c.in_ok-session.session c.run-ran.new.session (g.W.Write.contents c.run-ran.new.console.outputs.output.writer.now)
           c.in_ok-session.ensures.session source options c.run-ran.ensures.ran c.flush.ensures.kept,
       reported_of-write c.run-ran.result,
     ))

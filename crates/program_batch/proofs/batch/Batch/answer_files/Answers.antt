@@ -5,11 +5,9 @@ use Rattle.program_batch.proofs.batch.Batch.answer_files.Goals as goal
 
 pub loop-name-init : goal.loop-name-init
 loop-name-init g c = record {
-  output = search rules;
-  faults = search rules;
+  same = search rules;
   options = search rules;
   delivered = search rules;
-  unfailed = search rules;
   silent = search rules;
   answered = Steps-none _ _;
 }
@@ -18,11 +16,9 @@ pub loop-name-preserved : goal.loop-name-preserved
 loop-name-preserved g c =
     let i = c.loop-name.invariant in
     record {
-      output = search rules;
-      faults = search rules;
+      same = search rules;
       options = search rules;
       delivered = search rules;
-      unfailed = search rules;
       silent = search rules;
       answered = Steps-next _ _ (λ name. File (string_bytes name)) c.args.names.now c.loop-name.name-index c.name-item.result _ _ _ _ c.loop-name-test.true c.name-item.is
           i.answered (ap g.C.FileTask.effects i.options) (ap File c.as_str.ensures.value) c.in_ok-answer_file.ensures.answered;

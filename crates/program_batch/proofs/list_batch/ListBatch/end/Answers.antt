@@ -1,6 +1,5 @@
 use Rattle.std.proofs.Common.{rules, ◌≡◌, false, true}
 use Rattle.program_batch.specs.Names.{is_name}
-use Rattle.program_batch.proofs.RunSteps.{EndsAt-never}
 use Rattle.program_batch.proofs.ListSteps.{Runs-no_name, Runs-name, listed_name-file, listed_name-no_file}
 use Rattle.program_batch.proofs.list_batch.ListBatch.end.Goals as goal
 
@@ -18,6 +17,3 @@ pub returns-in-None-clause-answered : goal.returns-in-None-clause-answered
 returns-in-None-clause-answered g c =
     let named : is_name c.args.self.now.name ≡ true = search rules in
     Runs-name _ _ _ _ c.args.self.now.name _ named (listed_name-no_file c.args.self.now.name _ _ c.in-None.ensures (search rules) c.reason-reason.ensures) c.answer_no_file.ensures.answered
-
-pub returns-in-None-clause-never : goal.returns-in-None-clause-never
-returns-in-None-clause-never g c = EndsAt-never _ _ _ _ c.answer_no_file.result c.answer_no_file.ensures.answered
