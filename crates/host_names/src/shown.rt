@@ -213,11 +213,7 @@ fn is_plain(byte: u8) -> bool
 fn are_plain(bytes: &[u8]) -> bool
     ensures { result ≡ list_all is_plain bytes.now }
 {
-    let mut are_plain = true;
-    for byte in bytes {
-        are_plain = are_plain && is_plain(*byte);
-    }
-    are_plain
+    bytes.iter().all(|byte| is_plain(*byte))
 }
 
 /// Replaces control characters and direction marks by their numbers, as `\u007f`, in the JSON that
