@@ -7,7 +7,7 @@ use Rattle.std.specs.List.{find}
 use Rattle.std.specs.Option.{option_or, option_map_or}
 use Rattle.d64_g64.specs.Starts.{starts_on, start_pairs, paired}
 use Rattle.d64_g64.specs.Headers.{names, is_good, has_other_id}
-use Rattle.d64_g64.specs.Blocks.{header_code, data_code, bytes_behind, header_of, code_of, bytes_of, blank}
+use Rattle.d64_g64.specs.Blocks.{names_readable, header_code, data_code, bytes_behind, header_of, code_of, bytes_of, blank}
 
 -- a header's code, by what was tested
 pub code_by_parts : (id : Option (ℕ × ℕ)) (track : List ℕ) (pair : ℕ × ℕ) (good other : Bool) → good ≡ is_good track pair → other ≡ has_other_id id track pair
@@ -22,13 +22,13 @@ code_of_bad id track pair is = ap (λ (a : Bool). cond a (cond (has_other_id id 
 
 -- the first header with code 1 is the block's
 pub found_good : (id : Option (ℕ × ℕ)) (track : List ℕ) (number sector : ℕ) (pair : ℕ × ℕ)
-    → find (λ pair. names track number sector pair && (header_code id track pair == 1)) (start_pairs track) ≡ Some pair → header_of id track number sector ≡ Some pair
+    → find (names_readable id track number sector) (start_pairs track) ≡ Some pair → header_of id track number sector ≡ Some pair
 unfolding header_of
 found_good id track number sector pair is = ap (λ (o : Option (ℕ × ℕ)). option_or o (find (names track number sector) (start_pairs track))) is
 
 -- else the first one that names it
 pub found_first : (id : Option (ℕ × ℕ)) (track : List ℕ) (number sector : ℕ)
-    → find (λ pair. names track number sector pair && (header_code id track pair == 1)) (start_pairs track) ≡ None
+    → find (names_readable id track number sector) (start_pairs track) ≡ None
     → header_of id track number sector ≡ find (names track number sector) (start_pairs track)
 unfolding header_of
 found_first id track number sector is = ap (λ (o : Option (ℕ × ℕ)). option_or o (find (names track number sector) (start_pairs track))) is
@@ -44,7 +44,7 @@ unfolding bytes_of header_of
 bytes_without id track number sector is =
     let none : start_pairs track ≡ [] = ap paired (empty (starts_on track) is) in
     sym (ap (λ (xs : List (ℕ × ℕ)). option_map_or (λ pair. bytes_behind track pair.1)
-    (option_or (find (λ pair. names track number sector pair && (header_code id track pair == 1)) xs) (find (names track number sector) xs)) blank) none)
+    (option_or (find (names_readable id track number sector) xs) (find (names track number sector) xs)) blank) none)
   where
     empty : (xs : List ℕ) → length xs ≡ 0 → xs ≡ []
     empty [] e = refl
@@ -74,21 +74,17 @@ found_has p (first ∷ rest) pair e = elim (cases_Bool (p first)) [
 ]
 
 pub code_one : (id : Option (ℕ × ℕ)) (track : List ℕ) (number sector : ℕ) (pair : ℕ × ℕ)
-    → find (λ pair. names track number sector pair && (header_code id track pair == 1)) (start_pairs track) ≡ Some pair → 1 ≡ header_code id track pair
+    → find (names_readable id track number sector) (start_pairs track) ≡ Some pair → 1 ≡ header_code id track pair
 code_one id track number sector pair is =
-    second (names track number sector pair) (header_code id track pair) (found_has (λ pair. names track number sector pair && (header_code id track pair == 1)) (start_pairs track) pair is)
+    second (names track number sector pair) (header_code id track pair) (found_has (names_readable id track number sector) (start_pairs track) pair is)
   where
     second : (b : Bool) (n : ℕ) → (b && (n == 1)) ≡ true → 1 ≡ n
     second false n h = absurd (cc)
     second true n h = elim (eqb_tells n 1) [ inl same ↦ sym same.1 | inr other ↦ let wrong : true ≡ false = sym h ∙ other.0 in absurd (cc) ]
 
--- the headers that are searched first
-abbrev pub good_one : Option (ℕ × ℕ) → List ℕ → ℕ → ℕ → Option (ℕ × ℕ)
-good_one id track number sector = find (λ pair. names track number sector pair && (header_code id track pair == 1)) (start_pairs track)
-
 -- the block, if that search found a header
 pub good_block : (id : Option (ℕ × ℕ)) (track : List ℕ) (number sector : ℕ) (there : Bool) (block : List ℕ) (found : Option (ℕ × ℕ))
-    → good_one id track number sector ≡ found → there ≡ true → (length (starts_on track) ≡ 0 → ⊥)
+    → find (names_readable id track number sector) (start_pairs track) ≡ found → there ≡ true → (length (starts_on track) ≡ 0 → ⊥)
     → MatchOption found (there ≡ false) (λ pair. (there ≡ true) × (block ≡ bytes_behind track pair.1))
     → (1 ≡ code_of id track number sector) × (block ≡ bytes_of id track number sector)
 good_block id track number sector there block None is yes_there some none = let wrong : true ≡ false = sym yes_there ∙ none in absurd (cc)
@@ -103,7 +99,7 @@ no_good there None A not_there none = refl
 no_good there (Some pair) A not_there read = let wrong : true ≡ false = sym read.0 ∙ not_there in absurd (cc)
 
 pub first_block : (id : Option (ℕ × ℕ)) (track : List ℕ) (number sector : ℕ) (code : ℕ) (block : List ℕ) (found : Option (ℕ × ℕ))
-    → good_one id track number sector ≡ None → find (names track number sector) (start_pairs track) ≡ found → (length (starts_on track) ≡ 0 → ⊥)
+    → find (names_readable id track number sector) (start_pairs track) ≡ None → find (names track number sector) (start_pairs track) ≡ found → (length (starts_on track) ≡ 0 → ⊥)
     → MatchOption found ((code ≡ 2) × (block ≡ blank)) (λ pair. (code ≡ header_code id track pair) × (block ≡ bytes_behind track pair.1))
     → (code ≡ code_of id track number sector) × (block ≡ bytes_of id track number sector)
 first_block id track number sector code block None none is some read = (

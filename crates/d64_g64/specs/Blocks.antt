@@ -31,6 +31,10 @@ unfoldable pub header_code : Option (ℕ × ℕ) → Bytes → ℕ × ℕ → �
 header_code id track pair =
     if is_good track pair then (if has_other_id id track pair then 11 else data_code track pair.1) else 9
 
+-- whether a header names a block, and has code 1
+abbrev pub names_readable : Option (ℕ × ℕ) → Bytes → ℕ → ℕ → ℕ × ℕ → Bool
+names_readable id track number sector pair = names track number sector pair && (header_code id track pair == 1)
+
 -- 256 bytes of 0
 abbrev pub blank : Bytes
 blank = replicate 256 0
@@ -43,7 +47,7 @@ bytes_behind track start = if is_data track start then data_bytes track start el
 unfoldable pub header_of : Option (ℕ × ℕ) → Bytes → ℕ → ℕ → Option (ℕ × ℕ)
 header_of id track number sector =
     option_or
-    (find (λ pair. names track number sector pair && (header_code id track pair == 1)) (start_pairs track))
+    (find (names_readable id track number sector) (start_pairs track))
     (find (names track number sector) (start_pairs track))
 
 -- the code of a block: 3 if its track has no start, 2 if no header names it, else its header's

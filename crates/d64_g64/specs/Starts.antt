@@ -4,6 +4,11 @@ use Rattle.std.specs.List.{range_with_len}
 use Rattle.d64_image.specs.Disk.{Bytes}
 use Rattle.d64_g64.specs.Circle.{bits_from}
 
+-- a place of a track, counted in bits
+pub record Place : Type 0 where
+  pub track : Bytes
+  pub place : ℕ
+
 -- the place this many bits before another one; two rounds of the track are added, so that it is
 -- never below 0
 abbrev pub before : Bytes → ℕ → ℕ → ℕ

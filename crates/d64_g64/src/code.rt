@@ -1,9 +1,9 @@
 //! The group code, in which a track holds its bytes.
-ghost use Rattle.std.specs.Prelude.{◌≡◌, ◌*◌, ◌<◌, IfSome, length};
-ghost use Rattle.d64_g64.specs.Circle.{IsTrack};
+ghost use Rattle.std.specs.Prelude.{◌≡◌, ◌<◌, IfSome};
 ghost use Rattle.d64_g64.specs.Codes.{nibble_of, byte_of_bits, value_at, value_or_zero, is_value, xor_of, are_equal};
 
 use crate::circle::{around, ten_bits};
+use crate::start::Start;
 
 /// The nibble of each code of five bits, and 16 for bits that are no code.
 const NIBBLES: [u8; 32] = [
@@ -33,14 +33,12 @@ fn byte_of_bits(bits: u32) -> Option<u8>
     }
 }
 
-/// Byte k from a place of the track, from 0, or None if it has no value.
-pub(crate) fn value_at(track: &[u8], place: usize, k: usize) -> Option<u8>
-    requires track { IsTrack track.now }
-    requires place { place < 8 * length track.now }
-    requires near { k < 258 }
-    ensures { result ≡ value_at track.now place k }
+/// Byte k from a start, from 0, or None if it has no value.
+pub(crate) fn value_at(start: &Start<'_>, k: usize) -> Option<u8>
+    requires { k < 258 }
+    ensures { result ≡ value_at start.now.track start.now.place k }
 {
-    byte_of_bits(ten_bits(track, around(track, place + 10 * k)))
+    byte_of_bits(ten_bits(start.track, around(start.track, start.place + 10 * k)))
 }
 
 /// A value, or 0 if there is no value.

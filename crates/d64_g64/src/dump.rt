@@ -10,9 +10,9 @@ ghost use Rattle.d64_g64.specs.Dump.{id_in, first_codes, first_blocks, kept_coun
 
 use crate::block::read_block;
 use crate::fault::G64Fault;
-use crate::file::{copy_track, is_g64};
+use crate::file::is_g64;
 use crate::header::{Id, disk_id};
-use crate::start::list_starts;
+use crate::track::{TrackLists, read_track};
 use d64_image::{BLOCK_BYTES, BLOCKS, BlockNo};
 use std::alloc::{AllocError, Global};
 
@@ -31,13 +31,6 @@ const BLOCKS_BEYOND: usize = 85;
 /// The track whose headers have the disk's id.
 const DIRECTORY_TRACK: u8 = 18;
 
-/// The track that is read: its bytes and its starts.
-#[derive(Drop)]
-pub(crate) struct Track {
-    pub(crate) bytes: Vec<u8>,
-    pub(crate) starts: Vec<u32>,
-}
-
 /// What was read of a disk, block by block.
 #[derive(Drop)]
 struct Blocks {
@@ -46,13 +39,12 @@ struct Blocks {
 }
 
 /// Reads the disk's id.
-pub(crate) fn read_id(file: &[u8], track: &mut Track) -> Result<Option<Id>, AllocError>
+pub(crate) fn read_id(file: &[u8], lists: &mut TrackLists) -> Result<Option<Id>, AllocError>
     requires { is_g64 file.now ≡ true }
     ensures { IfOk result (λ id. id ≡ id_in file.now) }
 {
-    copy_track(&mut track.bytes, file, DIRECTORY_TRACK)?;
-    list_starts(&mut track.starts, &track.bytes)?;
-    Ok(disk_id(&track.bytes, &track.starts))
+    let track = read_track(lists, file, DIRECTORY_TRACK)?;
+    Ok(disk_id(&track))
 }
 
 /// Appends a block.
@@ -71,7 +63,7 @@ fn add_track(
     file: &[u8],
     number: u8,
     id: Option<Id>,
-    track: &mut Track,
+    lists: &mut TrackLists,
 ) -> Result<(), AllocError>
     requires file { is_g64 file.now ≡ true }
     requires number { (1 ≤ number) × (number < 41) }
@@ -81,13 +73,12 @@ fn add_track(
     ensures codes { OnOk result (blocks.new.codes.items ≡ first_codes file.now (first_block (number + 1))) }
     ensures bytes { OnOk result (blocks.new.bytes.items ≡ image_bytes (first_blocks file.now (first_block (number + 1)))) }
 {
-    copy_track(&mut track.bytes, file, number)?;
-    list_starts(&mut track.starts, &track.bytes)?;
+    let track = read_track(lists, file, number)?;
     let mut block = [0; BLOCK_BYTES];
     for sector in 0..MOST_SECTORS {
         match BlockNo::of(number, sector) {
             Some(_) => {
-                let code = read_block(&track.bytes, &track.starts, id, number, sector, &mut block);
+                let code = read_block(&track, id, number, sector, &mut block);
                 push_block(blocks, code, &block)?;
             }
             None => {}
@@ -97,16 +88,16 @@ fn add_track(
 }
 
 /// Reads the blocks of all tracks.
-fn read_tracks(blocks: &mut Blocks, file: &[u8], track: &mut Track) -> Result<(), AllocError>
+fn read_tracks(blocks: &mut Blocks, file: &[u8], lists: &mut TrackLists) -> Result<(), AllocError>
     requires file { is_g64 file.now ≡ true }
     requires codes { blocks.old.codes.items ≡ [] }
     requires bytes { blocks.old.bytes.items ≡ [] }
     ensures codes { OnOk result (blocks.new.codes.items ≡ first_codes file.now 768) }
     ensures bytes { OnOk result (blocks.new.bytes.items ≡ image_bytes (first_blocks file.now 768)) }
 {
-    let id = read_id(file, track)?;
+    let id = read_id(file, lists)?;
     for number in 1..END_OF_TRACKS {
-        add_track(blocks, file, number, id, track)?;
+        add_track(blocks, file, number, id, lists)?;
     }
     Ok(())
 }
@@ -151,7 +142,7 @@ fn close(blocks: &mut Blocks) -> Result<(), AllocError>
 }
 
 /// Reads a dump into empty lists.
-fn read_blocks(blocks: &mut Blocks, file: &[u8], track: &mut Track) -> Result<(), AllocError>
+fn read_blocks(blocks: &mut Blocks, file: &[u8], lists: &mut TrackLists) -> Result<(), AllocError>
     requires file { is_g64 file.now ≡ true }
     requires codes { blocks.old.codes.items ≡ [] }
     requires bytes { blocks.old.bytes.items ≡ [] }
@@ -159,7 +150,7 @@ fn read_blocks(blocks: &mut Blocks, file: &[u8], track: &mut Track) -> Result<()
 {
     blocks.bytes.reserve_exact(BLOCKS * BLOCK_BYTES + BLOCKS)?;
     blocks.codes.reserve_exact(BLOCKS)?;
-    read_tracks(blocks, file, track)?;
+    read_tracks(blocks, file, lists)?;
     close(blocks)
 }
 
@@ -173,7 +164,7 @@ pub fn read_g64(alloc: Global, file: &[u8]) -> Result<Vec<u8>, G64Fault>
     if !is_g64(file) {
         return Err(G64Fault::Bad);
     }
-    let mut track = Track {
+    let mut lists = TrackLists {
         bytes: Vec::new(alloc),
         starts: Vec::new(alloc),
     };
@@ -181,7 +172,7 @@ pub fn read_g64(alloc: Global, file: &[u8]) -> Result<Vec<u8>, G64Fault>
         bytes: Vec::new(alloc),
         codes: Vec::new(alloc),
     };
-    match read_blocks(&mut blocks, file, &mut track) {
+    match read_blocks(&mut blocks, file, &mut lists) {
         Ok(()) => Ok(blocks.bytes),
         Err(error) => Err(G64Fault::Memory(error)),
     }

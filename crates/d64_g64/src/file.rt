@@ -1,6 +1,6 @@
 //! G64 files and the places of their tracks.
 ghost use Rattle.std.specs.Prelude.{◌≡◌, ℕ, ◌+◌, ◌-◌, ◌*◌, ◌<◌, ◌≤◌, true, length, OnOk, if◌then◌else◌, Some, None};
-ghost use Rattle.d64_g64.specs.File.{begins_as_g64, number_of_two, number_of_four, is_g64, entries, offset_of, has_track, padded, entry_bytes, track_of};
+ghost use Rattle.d64_g64.specs.File.{begins_as_g64, number_of_two, number_of_four, is_g64, entries, offset_of, has_track, padded, entry_bytes};
 
 use std::alloc::AllocError;
 
@@ -88,15 +88,4 @@ pub(crate) fn copy_entry(copy: &mut Vec<u8>, file: &[u8], entry: u8) -> Result<(
     }
     let offset = offset_of(file, entry);
     copy_padded(copy, file, offset + 2, number_of_two(file, offset))
-}
-
-/// Copies the bytes of a whole track, or no bytes if the file has no such track.
-#[tactic(auto, unfolding(crate::specs::File::track_of))]
-pub(crate) fn copy_track(copy: &mut Vec<u8>, file: &[u8], number: u8) -> Result<(), AllocError>
-    requires file { is_g64 file.now ≡ true }
-    requires number { (1 ≤ number) × (number < 41) }
-    ensures copied { OnOk result (copy.new.items ≡ track_of file.now number) }
-    ensures short { OnOk result (length copy.new.items < 65536) }
-{
-    copy_entry(copy, file, 2 * number - 2)
 }

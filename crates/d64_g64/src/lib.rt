@@ -16,6 +16,7 @@ pub mod laws;
 mod naming;
 mod refilling;
 mod start;
+mod track;
 
 pub use dump::read_g64;
 pub use fault::G64Fault;

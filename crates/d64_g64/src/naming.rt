@@ -1,71 +1,59 @@
 //! The blocks that the headers of a track name, of which the drive could read what follows.
 ghost use Rattle.std.specs.Prelude.{◌≡◌, ◌++◌, ◌∷◌, [], ◌*◌, ◌<◌, true, length, OnOk};
-ghost use Rattle.d64_g64.specs.Circle.{IsTrack};
 ghost use Rattle.d64_g64.specs.Codes.{value_at, value_or_zero};
 ghost use Rattle.d64_g64.specs.Dump.{id_in};
 ghost use Rattle.d64_g64.specs.File.{is_g64, entry_bytes};
 ghost use Rattle.d64_g64.specs.SoundNames.{is_sound_header, name_of, names_by, is_read_as_g64, names_on};
-ghost use Rattle.d64_g64.specs.Starts.{starts_on, start_pairs};
+ghost use Rattle.d64_g64.specs.Starts.{start_pairs};
 
 use crate::block::read_behind;
 use crate::code::{is_value, value_at, value_or_zero};
-use crate::dump::{Track, read_id};
-use crate::file::{begins_as_g64, copy_entry, is_g64};
+use crate::dump::read_id;
+use crate::file::{begins_as_g64, is_g64};
 use crate::header::Id;
 use crate::refilling::is_d64_length;
-use crate::start::{list_starts, next_start, start_at};
+use crate::start::Start;
+use crate::track::{Track, TrackLists, count_starts, next_start, read_entry, start_at};
 use d64_image::BLOCK_BYTES;
 use std::alloc::{AllocError, Global};
 
 /// Whether a start is a header whose code is 1, by the start after it.
-fn is_sound_header(track: &[u8], start: usize, next: usize, id: Option<Id>) -> bool
-    requires track { IsTrack track.now }
-    requires start { start < 8 * length track.now }
-    requires next { next < 8 * length track.now }
-    ensures { result ≡ is_sound_header id track.now (start, next) }
+fn is_sound_header(start: &Start<'_>, next: usize, id: Option<Id>) -> bool
+    requires { next < 8 * length start.now.track }
+    ensures { result ≡ is_sound_header id start.now.track (start.now.place, next) }
 {
     let mut block = [0; BLOCK_BYTES];
-    is_value(value_at(track, start, 0), 8) && read_behind(track, start, next, id, &mut block) == 1
+    is_value(value_at(start, 0), 8) && read_behind(start, next, id, &mut block) == 1
 }
 
 /// Appends the track and the sector that a header names, if its code is 1.
 #[tactic(auto, unfolding(crate::specs::SoundNames::names_by))]
 fn add_name(
     names: &mut Vec<(u8, u8)>,
-    track: &[u8],
-    start: usize,
+    start: &Start<'_>,
     next: usize,
     id: Option<Id>,
 ) -> Result<(), AllocError>
-    requires track { IsTrack track.now }
-    requires start { start < 8 * length track.now }
-    requires next { next < 8 * length track.now }
-    ensures { OnOk result (names.new.items ≡ names.old.items ++ names_by id track.now ((start, next) ∷ [])) }
+    requires { next < 8 * length start.now.track }
+    ensures { OnOk result (names.new.items ≡ names.old.items ++ names_by id start.now.track ((start.now.place, next) ∷ [])) }
 {
-    if !is_sound_header(track, start, next, id) {
+    if !is_sound_header(start, next, id) {
         return Ok(());
     }
-    let number = value_or_zero(value_at(track, start, 3));
-    let sector = value_or_zero(value_at(track, start, 2));
+    let number = value_or_zero(value_at(start, 3));
+    let sector = value_or_zero(value_at(start, 2));
     names.push((number, sector))?;
     Ok(())
 }
 
 /// Appends the tracks and the sectors that the headers of a track with code 1 name.
-fn add_names(
-    names: &mut Vec<(u8, u8)>,
-    track: &[u8],
-    starts: &[u32],
-    id: Option<Id>,
-) -> Result<(), AllocError>
-    requires track { length track.now < 65536 }
-    requires starts { starts.now ≡ starts_on track.now }
+fn add_names(names: &mut Vec<(u8, u8)>, track: &Track<'_>, id: Option<Id>) -> Result<(), AllocError>
     ensures { OnOk result (names.new.items ≡ names.old.items ++ names_by id track.now (start_pairs track.now)) }
 {
-    for place in 0..starts.len() {
-        let start = start_at(track, starts, place);
-        let next = next_start(track, starts, place);
-        add_name(names, track, start, next, id)?;
+    for index in 0..count_starts(track) {
+        let start = start_at(track, index);
+        let next = next_start(track, index);
+        add_name(names, &start, next, id)?;
     }
     Ok(())
 }
@@ -75,15 +63,14 @@ fn add_entry(
     names: &mut Vec<(u8, u8)>,
     file: &[u8],
     entry: u8,
-    track: &mut Track,
+    lists: &mut TrackLists,
 ) -> Result<(), AllocError>
     requires { is_g64 file.now ≡ true }
     ensures { OnOk result (names.new.items ≡ names.old.items ++ names_by (id_in file.now) (entry_bytes file.now entry) (start_pairs (entry_bytes file.now entry))) }
 {
-    let id = read_id(file, track)?;
-    copy_entry(&mut track.bytes, file, entry)?;
-    list_starts(&mut track.starts, &track.bytes)?;
-    add_names(names, &track.bytes, &track.starts, id)
+    let id = read_id(file, lists)?;
+    let track = read_entry(lists, file, entry)?;
+    add_names(names, &track, id)
 }
 
 /// Whether a file is read as a G64, and not as a D64.
@@ -109,9 +96,9 @@ pub fn list_names_on(
     if !is_read_as_g64(file) {
         return Ok(());
     }
-    let mut track = Track {
+    let mut lists = TrackLists {
         bytes: Vec::new(alloc),
         starts: Vec::new(alloc),
     };
-    add_entry(names, file, entry, &mut track)
+    add_entry(names, file, entry, &mut lists)
 }

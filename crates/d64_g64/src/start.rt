@@ -1,11 +1,31 @@
 //! The starts of a track.
-ghost use Rattle.std.specs.Prelude.{◌≡◌, ℕ, ◌+◌, ◌-◌, ◌*◌, ◌/◌, ◌%◌, ◌^◌, ◌<◌, ◌≤◌, ◌⊎◌, length, filter, option_to_list, slice_index, IfSome, IfNone, OnOk};
+ghost use Rattle.std.specs.Prelude.{◌≡◌, ℕ, ◌+◌, ◌-◌, ◌*◌, ◌/◌, ◌%◌, ◌^◌, ◌<◌, ◌≤◌, ◌⊎◌, length, filter, option_to_list, IfSome, IfNone, OnOk};
 ghost use Rattle.std.specs.List.{range_with_len};
 ghost use Rattle.d64_g64.specs.Circle.{IsTrack, byte_on};
-ghost use Rattle.d64_g64.specs.Starts.{is_start, starts_in, starts_on, next_of};
+ghost use Rattle.d64_g64.specs.Starts.{is_start, starts_in, starts_on};
 
 use crate::circle::three_bytes;
 use std::alloc::AllocError;
+use std::marker::Model;
+
+/// A place of a track at which bytes begin, of ten bits each.
+#[derive(Drop)]
+pub(crate) struct Start<'a> {
+    pub(crate) track: &'a [u8],
+    pub(crate) place: usize,
+}
+
+impl<'a> Model for Start<'a> {
+    ghost use Rattle.std.specs.Prelude.{◌*◌, ◌<◌, length};
+    ghost use Rattle.d64_g64.specs.Circle.{IsTrack};
+    ghost use Rattle.d64_g64.specs.Starts.{Place};
+
+    ghost Value = { Place };
+
+    ghost view = { λ start. record { track = start.track.now; place = start.place } };
+
+    ghost invariant = { λ start. IsTrack start.track.now × (start.place < 8 * length start.track.now) };
+}
 
 /// The place of a byte's highest bit that is 0, counted from the highest bit, or None if all are 1.
 fn first_zero(byte: u8) -> Option<u32>
@@ -88,32 +108,4 @@ pub(crate) fn list_starts(starts: &mut Vec<u32>, track: &[u8]) -> Result<(), All
         }
     }
     Ok(())
-}
-
-/// A start of a track.
-pub(crate) fn start_at(track: &[u8], starts: &[u32], place: usize) -> usize
-    requires track { length track.now < 65536 }
-    requires starts { starts.now ≡ starts_on track.now }
-    requires place { place < length starts.now }
-    ensures value { result ≡ slice_index starts.now place }
-    ensures track { IsTrack track.now }
-    ensures within { result < 8 * length track.now }
-{
-    let _ = track;
-    starts[place] as usize
-}
-
-/// The start of a track after another one. The first one comes after the last one.
-pub(crate) fn next_start(track: &[u8], starts: &[u32], place: usize) -> usize
-    requires track { length track.now < 65536 }
-    requires starts { starts.now ≡ starts_on track.now }
-    requires place { place < length starts.now }
-    ensures value { result ≡ next_of starts.now place }
-    ensures within { result < 8 * length track.now }
-{
-    if place + 1 < starts.len() {
-        start_at(track, starts, place + 1)
-    } else {
-        start_at(track, starts, 0)
-    }
 }

@@ -10,8 +10,8 @@ use Rattle.d64_g64.proofs.block.read_data.Goals as goal
 
 pub loop-k-preserved : goal.loop-k-preserved
 loop-k-preserved c =
-    let track = c.args.track.now in
-    let start = c.args.start in
+    let track = c.args.start.now.track in
+    let start = c.args.start.now.place in
     let k = c.loop-k.k in
     let i = c.loop-k.invariant in
     let found = c.value_at-found.ensures in
@@ -27,8 +27,8 @@ loop-k-preserved c =
 pub returns : goal.returns
 unfolding data_bytes is_whole
 returns c =
-    let track = c.args.track.now in
-    let start = c.args.start in
+    let track = c.args.start.now.track in
+    let start = c.args.start.now.place in
     let i = c.loop-k.invariant in
     let all : c.loop-k.k ≡ 256 = omega (arith, c.loop-k-test.false, c.loop-k.auto.k-end) in
     let f : ℕ → ℕ = λ k. value_or_zero (value_at track start k) in

@@ -20,10 +20,10 @@ loop-sector-preserved c =
           let here = sector_of number sector within in
           record {
             codes = ap (λ b. b.codes.items) w.blocks-is ∙ w.in_ok-push_block-in-Some.ensures.codes
-                ∙ ap₂ (λ (xs : List ℕ) (x : ℕ). xs ++ x ∷ []) c.loop-sector.invariant.codes (w.read_block-code.ensures.code ∙ ap₂ (λ (id : Option (ℕ × ℕ)) (xs : List ℕ). code_of id xs number sector) c.requires.id (w.deref-in-Some.ensures.value ∙ c.in_ok-copy_track.ensures.copied) ∙ code_is file number sector c.requires.number.0 c.requires.number.1 within ∙ ap (block_code file) (sym here))
+                ∙ ap₂ (λ (xs : List ℕ) (x : ℕ). xs ++ x ∷ []) c.loop-sector.invariant.codes (w.read_block-code.ensures.code ∙ ap₂ (λ (id : Option (ℕ × ℕ)) (xs : List ℕ). code_of id xs number sector) c.requires.id c.in_ok-track.ensures ∙ code_is file number sector c.requires.number.0 c.requires.number.1 within ∙ ap (block_code file) (sym here))
                 ∙ sym (ap (first_codes file) more ∙ codes_more file place);
             bytes = ap (λ b. b.bytes.items) w.blocks-is ∙ w.in_ok-push_block-in-Some.ensures.bytes
-                ∙ ap₂ (λ (xs ys : List ℕ). xs ++ ys) c.loop-sector.invariant.bytes (w.read_block-code.ensures.bytes ∙ ap₂ (λ (id : Option (ℕ × ℕ)) (xs : List ℕ). bytes_of id xs number sector) c.requires.id (w.deref-in-Some.ensures.value ∙ c.in_ok-copy_track.ensures.copied) ∙ bytes_are file number sector c.requires.number.0 c.requires.number.1 within ∙ ap (block_bytes file) (sym here))
+                ∙ ap₂ (λ (xs ys : List ℕ). xs ++ ys) c.loop-sector.invariant.bytes (w.read_block-code.ensures.bytes ∙ ap₂ (λ (id : Option (ℕ × ℕ)) (xs : List ℕ). bytes_of id xs number sector) c.requires.id c.in_ok-track.ensures ∙ bytes_are file number sector c.requires.number.0 c.requires.number.1 within ∙ ap (block_bytes file) (sym here))
                 ∙ sym (ap (λ (n : ℕ). image_bytes (first_blocks file n)) more ∙ blocks_more file place);
           }
       | in-None w ↦
