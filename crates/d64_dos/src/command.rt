@@ -7,7 +7,7 @@ ghost use Rattle.d64_dos.specs.Step.{IsMade, Leaves};
 ghost use Rattle.d64_effects.specs.Laws.{AreTwoBytes};
 ghost use Rattle.d64_effects.specs.View.{IsSound};
 ghost use Rattle.d64_image.specs.Image.{IsImage};
-ghost use Rattle.d64_image.specs.Patch.{IsPatchOf, restored_image, changed_blocks};
+ghost use Rattle.d64_image.specs.Patch.{restored_image, changed_blocks, StillRestores};
 
 use crate::delete::scratch;
 use crate::disk_name::name_disk;
@@ -234,8 +234,7 @@ fn carried_out(
     ensures refused { refused_by result ≡ refusal_of image.old (change_of command.now) }
     ensures reply { IfOk result (λ reply. reply ≡ reply_to image.old (change_of command.now)) }
     ensures accepted { OnOk result (image.new ≡ image_after image.old (change_of command.now)) }
-    ensures back { restored_image image.new patch.new ≡ restored_image image.old patch.old }
-    ensures held { IsPatchOf image.old patch.old → IsPatchOf image.new patch.new }
+    ensures back { StillRestores image.old patch.old image.new patch.new }
     ensures known { IsImage image.old × IsMade (change_of command.now) }
 {
     known_command(command);

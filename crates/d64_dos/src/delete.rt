@@ -2,7 +2,7 @@
 ghost use Rattle.std.specs.Prelude.{◌≡◌, ◌<◌, true, ℕ, List, length, All, IfOk, OnOk};
 ghost use Rattle.std.specs.List.{list_any, flat_map};
 ghost use Rattle.std.specs.FinSet as set;
-ghost use Rattle.d64_image.specs.Patch.{IsPatchOf, restored_image};
+ghost use Rattle.d64_image.specs.Patch.{StillRestores};
 ghost use Rattle.d64_map.specs.Map.{free_blocks};
 ghost use Rattle.d64_files.specs.Directory.{slots, slot_owns, AllHold};
 ghost use Rattle.d64_files.specs.Pattern.{matches as is_match};
@@ -96,8 +96,7 @@ pub(crate) fn clear_slots(
 ) -> Result<(), AllocError>
     requires { All (λ place. place < length (slots image.old)) places.now }
     ensures cleared { OnOk result (image.new ≡ with_cleared image.old places.now) }
-    ensures back { restored_image image.new patch.new ≡ restored_image image.old patch.old }
-    ensures held { IsPatchOf image.old patch.old → IsPatchOf image.new patch.new }
+    ensures back { StillRestores image.old patch.old image.new patch.new }
 {
     clearing_keeps_the_directory();
     image.known_image();
@@ -127,8 +126,7 @@ pub(crate) fn scratch(
     ensures refused { refused_by result ≡ unsound_refusal image.old }
     ensures count { IfOk result (λ count. count ≡ scratched_count image.old patterns.now) }
     ensures image { OnOk result (image.new ≡ scratched_disk image.old patterns.now) }
-    ensures back { restored_image image.new patch.new ≡ restored_image image.old patch.old }
-    ensures held { IsPatchOf image.old patch.old → IsPatchOf image.new patch.new }
+    ensures back { StillRestores image.old patch.old image.new patch.new }
 {
     clearing_keeps_the_directory();
     image.known_image();

@@ -1,6 +1,6 @@
 //! Giving the disk another name, and another id.
 ghost use Rattle.std.specs.Prelude.{◌≡◌, OnOk};
-ghost use Rattle.d64_image.specs.Patch.{IsPatchOf, restored_image};
+ghost use Rattle.d64_image.specs.Patch.{StillRestores};
 ghost use Rattle.d64_files.specs.Name.{filled_field};
 ghost use Rattle.d64_effects.specs.DiskName.{labelled, named_disk};
 
@@ -47,8 +47,7 @@ pub(crate) fn name_disk(
     id: Option<[u8; 2]>,
 ) -> Result<(), AllocError>
     ensures named { OnOk result (image.new ≡ named_disk image.old name.now id) }
-    ensures back { restored_image image.new patch.new ≡ restored_image image.old patch.old }
-    ensures held { IsPatchOf image.old patch.old → IsPatchOf image.new patch.new }
+    ensures back { StillRestores image.old patch.old image.new patch.new }
 {
     image.known_image();
     let block = labelled(image.sector(map_block()), name, id);

@@ -2,7 +2,7 @@
 ghost use Rattle.std.specs.Prelude.{◌≡◌, ◌<◌, length, replicate, OnOk};
 ghost use Rattle.d64_image.specs.declared.image.TheConstants.{BLOCK_BYTES};
 ghost use Rattle.d64_image.specs.Image.{with_sector};
-ghost use Rattle.d64_image.specs.Patch.{IsPatchOf, restored_image};
+ghost use Rattle.d64_image.specs.Patch.{StillRestores};
 ghost use Rattle.d64_effects.specs.Format.{directory_start, header, free_when_formatted, blank_disk, formatted_disk};
 
 use crate::block_count::block_count;
@@ -66,8 +66,7 @@ fn free_when_formatted(image: &Image) -> BlockSet
 fn blank_block(image: &mut Image, patch: &mut Patch, block: BlockNo) -> Result<(), AllocError>
     requires { block < length image.old }
     ensures blank { OnOk result (image.new ≡ with_sector image.old block (replicate BLOCK_BYTES 0)) }
-    ensures back { restored_image image.new patch.new ≡ restored_image image.old patch.old }
-    ensures held { IsPatchOf image.old patch.old → IsPatchOf image.new patch.new }
+    ensures back { StillRestores image.old patch.old image.new patch.new }
 {
     let blank = [0; BLOCK_BYTES];
     if *image.sector(block) == blank {
@@ -79,8 +78,7 @@ fn blank_block(image: &mut Image, patch: &mut Patch, block: BlockNo) -> Result<(
 /// Writes zeros into all blocks.
 fn blank(image: &mut Image, patch: &mut Patch) -> Result<(), AllocError>
     ensures blank { OnOk result (image.new ≡ blank_disk (length image.old)) }
-    ensures back { restored_image image.new patch.new ≡ restored_image image.old patch.old }
-    ensures held { IsPatchOf image.old patch.old → IsPatchOf image.new patch.new }
+    ensures back { StillRestores image.old patch.old image.new patch.new }
 {
     for index in 0..block_count(image) {
         match BlockNo::at(index) {
@@ -101,8 +99,7 @@ pub(crate) fn format(
     id: &[u8; 2],
 ) -> Result<(), AllocError>
     ensures formatted { OnOk result (image.new ≡ formatted_disk (length image.old) name.now id.now) }
-    ensures back { restored_image image.new patch.new ≡ restored_image image.old patch.old }
-    ensures held { IsPatchOf image.old patch.old → IsPatchOf image.new patch.new }
+    ensures back { StillRestores image.old patch.old image.new patch.new }
 {
     image.known_image();
     let free = free_when_formatted(image);

@@ -1,6 +1,6 @@
 //! Renaming a file.
 ghost use Rattle.std.specs.Prelude.{◌≡◌, ◌<◌, true, Some, length, IfOk, IfSome, OnOk};
-ghost use Rattle.d64_image.specs.Patch.{IsPatchOf, restored_image};
+ghost use Rattle.d64_image.specs.Patch.{StillRestores};
 ghost use Rattle.d64_files.specs.Directory.{slots};
 ghost use Rattle.d64_effects.specs.View.{IsSound};
 ghost use Rattle.d64_effects.specs.Rename.{first_of_name, renamed_disk};
@@ -61,8 +61,7 @@ pub(crate) fn rename(
     requires { is_sound ≡ true → IsSound image.old }
     ensures refused { refused_by result ≡ rename_refusal image.old old.now new.now }
     ensures image { OnOk result (image.new ≡ renamed_disk image.old old.now new.now) }
-    ensures back { restored_image image.new patch.new ≡ restored_image image.old patch.old }
-    ensures held { IsPatchOf image.old patch.old → IsPatchOf image.new patch.new }
+    ensures back { StillRestores image.old patch.old image.new patch.new }
 {
     let slot = slot_to_rename(image, old, new, is_sound)?;
     set_name(image, patch, slot, new)?;

@@ -1,7 +1,7 @@
 //! Brings back a deleted file: its slot is used again, and its blocks are no longer free.
 ghost use Rattle.std.specs.Prelude.{◌≡◌, ◌<◌, true, length, find, is_some, option_map, OnOk, IfOk, IfSome};
 ghost use Rattle.std.specs.List.{list_any};
-ghost use Rattle.d64_image.specs.Patch.{IsPatchOf, restored_image};
+ghost use Rattle.d64_image.specs.Patch.{StillRestores};
 ghost use Rattle.d64_map.specs.Map.{free_blocks};
 ghost use Rattle.d64_files.specs.Directory.{slots, entries, AllHold};
 ghost use Rattle.d64_files.specs.Slot.{EntryView};
@@ -203,8 +203,7 @@ pub(crate) fn undelete(
     requires { is_sound ≡ true → IsSound image.old }
     ensures refused { refused_by result ≡ undelete_refusal image.old name.now kind }
     ensures image { OnOk result (image.new ≡ disk_with_file_back image.old name.now kind) }
-    ensures back { restored_image image.new patch.new ≡ restored_image image.old patch.old }
-    ensures held { IsPatchOf image.old patch.old → IsPatchOf image.new patch.new }
+    ensures back { StillRestores image.old patch.old image.new patch.new }
 {
     image.known_image();
     let found = file_to_restore(image, name, kind, is_sound)?;

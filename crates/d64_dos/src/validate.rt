@@ -1,7 +1,7 @@
 //! Validating a disk: unclosed files are dropped, and blocks without an owner are free.
 ghost use Rattle.std.specs.Prelude.{◌≡◌, ℕ, List, length, OnOk};
 ghost use Rattle.std.specs.FinSet as set;
-ghost use Rattle.d64_image.specs.Patch.{IsPatchOf, restored_image};
+ghost use Rattle.d64_image.specs.Patch.{StillRestores};
 ghost use Rattle.d64_effects.specs.Validate.{unclosed_slots, all_but, validated_disk};
 ghost use Rattle.d64_dos.specs.FileRefusals.{validate_refusal};
 ghost use Rattle.d64_dos.specs.Refusal.{refused_by};
@@ -57,8 +57,7 @@ fn all_but(image: &Image, owned: &BlockSet) -> BlockSet
 pub(crate) fn validate(image: &mut Image, patch: &mut Patch) -> Result<(), Refusal>
     ensures refused { refused_by result ≡ validate_refusal image.old }
     ensures image { OnOk result (image.new ≡ validated_disk image.old) }
-    ensures back { restored_image image.new patch.new ≡ restored_image image.old patch.old }
-    ensures held { IsPatchOf image.old patch.old → IsPatchOf image.new patch.new }
+    ensures back { StillRestores image.old patch.old image.new patch.new }
 {
     clearing_keeps_the_directory();
     let owned = owned(image)?;

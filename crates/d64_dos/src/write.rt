@@ -1,6 +1,6 @@
 //! Writing a file: its blocks, its entry, and the map.
 ghost use Rattle.std.specs.Prelude.{◌≡◌, true, length, is_some, IfOk, OnOk, IfSome, MatchOption};
-ghost use Rattle.d64_image.specs.Patch.{IsPatchOf, restored_image};
+ghost use Rattle.d64_image.specs.Patch.{StillRestores};
 ghost use Rattle.d64_map.specs.Map.{free_blocks};
 ghost use Rattle.d64_files.specs.Writing.{entry_bytes};
 ghost use Rattle.d64_effects.specs.View.{IsSound};
@@ -135,8 +135,7 @@ fn put_new_entry(
 ) -> Result<(), AllocError>
     requires { IsPlace image.old (free_blocks image.old) place }
     ensures written { OnOk result (image.new ≡ with_new_entry image.old (entry_bytes file.now.name.now file.now.kind file.now.first file.now.blocks)) }
-    ensures back { restored_image image.new patch.new ≡ restored_image image.old patch.old }
-    ensures held { IsPatchOf image.old patch.old → IsPatchOf image.new patch.new }
+    ensures back { StillRestores image.old patch.old image.new patch.new }
 {
     match place {
         Place::Vacant { block, index } => put_entry_at(image, patch, block, index, file),
@@ -158,8 +157,7 @@ fn put_file(
 ) -> Result<(), AllocError>
     requires { IsSpace image.old (length file.now.bytes.now) blocks.now space.now }
     ensures written { OnOk result (image.new ≡ written_disk image.old file.now.name.now file.now.kind file.now.bytes.now) }
-    ensures back { restored_image image.new patch.new ≡ restored_image image.old patch.old }
-    ensures held { IsPatchOf image.old patch.old → IsPatchOf image.new patch.new }
+    ensures back { StillRestores image.old patch.old image.new patch.new }
 {
     plan_takes_free_blocks();
     let closed = ClosedFile {
@@ -192,8 +190,7 @@ pub(crate) fn write(
     requires { is_sound ≡ true → IsSound image.old }
     ensures refused { refused_by result ≡ write_refusal image.old name.now kind (length bytes.now) }
     ensures written { OnOk result (image.new ≡ written_disk image.old name.now kind bytes.now) }
-    ensures back { restored_image image.new patch.new ≡ restored_image image.old patch.old }
-    ensures held { IsPatchOf image.old patch.old → IsPatchOf image.new patch.new }
+    ensures back { StillRestores image.old patch.old image.new patch.new }
 {
     let file = NewFile { name, kind, bytes };
     let mut blocks = ArrayVec::new();

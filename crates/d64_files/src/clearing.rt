@@ -3,7 +3,7 @@
 //!
 //! They write through a patch, so that their changes can be undone.
 ghost use Rattle.std.specs.Prelude.{◌≡◌, ◌+◌, ◌<◌, ◌≤◌, length, OnOk};
-ghost use Rattle.d64_image.specs.Patch.{IsPatchOf, restored_image};
+ghost use Rattle.d64_image.specs.Patch.{StillRestores};
 ghost use Rattle.d64_files.specs.Clearing.{with_cleared_slot, with_name, with_type};
 ghost use Rattle.d64_files.specs.Directory.{slots};
 ghost use Rattle.d64_files.specs.Name.{filled_field};
@@ -37,8 +37,7 @@ fn write_in_slot(
     requires slot { slot < length (slots image.old) }
     requires part { place + length part.now ≤ 30 }
     ensures written { OnOk result (image.new ≡ with_bytes image.old (slot_block image.old slot) (slot_start slot + place) part.now) }
-    ensures back { restored_image image.new patch.new ≡ restored_image image.old patch.old }
-    ensures held { IsPatchOf image.old patch.old → IsPatchOf image.new patch.new }
+    ensures back { StillRestores image.old patch.old image.new patch.new }
 {
     let block = block_of_slot(image, slot);
     let start = SLOT_BYTES * (slot.place() % SLOTS_PER_BLOCK) + TYPE_BYTE;
@@ -66,8 +65,7 @@ fn filled(name: &Name) -> [u8; MAX_LEN]
 pub fn clear_slot(image: &mut Image, patch: &mut Patch, slot: SlotNo) -> Result<(), AllocError>
     requires { slot < length (slots image.old) }
     ensures cleared { OnOk result (image.new ≡ with_cleared_slot image.old slot) }
-    ensures back { restored_image image.new patch.new ≡ restored_image image.old patch.old }
-    ensures held { IsPatchOf image.old patch.old → IsPatchOf image.new patch.new }
+    ensures back { StillRestores image.old patch.old image.new patch.new }
 {
     write_in_slot(image, patch, slot, 0, &[0])
 }
@@ -87,8 +85,7 @@ pub fn set_type(
 ) -> Result<(), AllocError>
     requires { slot < length (slots image.old) }
     ensures typed { OnOk result (image.new ≡ with_type image.old slot kind) }
-    ensures back { restored_image image.new patch.new ≡ restored_image image.old patch.old }
-    ensures held { IsPatchOf image.old patch.old → IsPatchOf image.new patch.new }
+    ensures back { StillRestores image.old patch.old image.new patch.new }
 {
     write_in_slot(image, patch, slot, 0, &[CLOSED + kind.number()])
 }
@@ -107,8 +104,7 @@ pub fn set_name(
 ) -> Result<(), AllocError>
     requires { slot < length (slots image.old) }
     ensures named { OnOk result (image.new ≡ with_name image.old slot name.now) }
-    ensures back { restored_image image.new patch.new ≡ restored_image image.old patch.old }
-    ensures held { IsPatchOf image.old patch.old → IsPatchOf image.new patch.new }
+    ensures back { StillRestores image.old patch.old image.new patch.new }
 {
     write_in_slot(image, patch, slot, NAME_AFTER_TYPE, &filled(name))
 }

@@ -6,7 +6,7 @@
 //! some blocks may be written, and putting the patch back still gives the image from before.
 ghost use Rattle.std.specs.Prelude.{◌≡◌, ◌≢◌, ◌+◌, ◌*◌, ◌<◌, ◌≤◌, [], length, OnOk};
 ghost use Rattle.d64_image.specs.Image.{sector_at};
-ghost use Rattle.d64_image.specs.Patch.{IsPatchOf, restored_image};
+ghost use Rattle.d64_image.specs.Patch.{StillRestores};
 ghost use Rattle.d64_files.specs.Chain.{LieIn};
 ghost use Rattle.d64_files.specs.Directory.{directory, slots};
 ghost use Rattle.d64_files.specs.Writing.{written_at, pair_bytes, with_bytes, blocks_for, linked_block, last_block, with_chain, entry_bytes, with_entry, dir_last, empty_directory, with_growth};
@@ -90,8 +90,7 @@ pub fn put_entry_at(
     requires block { block < length image.old }
     requires slot { index < 8 }
     ensures written { OnOk result (image.new ≡ with_bytes image.old block (32 * index + 2) (entry_bytes file.now.name.now file.now.kind file.now.first file.now.blocks)) }
-    ensures back { restored_image image.new patch.new ≡ restored_image image.old patch.old }
-    ensures held { IsPatchOf image.old patch.old → IsPatchOf image.new patch.new }
+    ensures back { StillRestores image.old patch.old image.new patch.new }
 {
     let start = SLOT_BYTES * index + 2;
     let mut bytes = *image.sector(block);
@@ -124,8 +123,7 @@ pub fn put_entry(
     requires directory { directory image.old ≢ [] }
     requires slot { slot < length (slots image.old) }
     ensures written { OnOk result (image.new ≡ with_entry image.old slot (entry_bytes name.now kind first blocks)) }
-    ensures back { restored_image image.new patch.new ≡ restored_image image.old patch.old }
-    ensures held { IsPatchOf image.old patch.old → IsPatchOf image.new patch.new }
+    ensures back { StillRestores image.old patch.old image.new patch.new }
 {
     let block = block_of_slot(image, slot);
     let index = slot.place() % SLOTS_PER_BLOCK;
@@ -176,8 +174,7 @@ pub fn put_chain(
     requires blocks { LieIn image.old blocks.now }
     requires count { length blocks.now ≡ blocks_for (length bytes.now) }
     ensures written { OnOk result (image.new ≡ with_chain image.old blocks.now bytes.now) }
-    ensures back { restored_image image.new patch.new ≡ restored_image image.old patch.old }
-    ensures held { IsPatchOf image.old patch.old → IsPatchOf image.new patch.new }
+    ensures back { StillRestores image.old patch.old image.new patch.new }
 {
     let last = blocks.len() - 1;
     let mut rest = bytes;
@@ -224,8 +221,7 @@ pub fn grow_after(
     requires last { last ≡ dir_last image.old }
     requires new { new < length image.old }
     ensures written { OnOk result (image.new ≡ with_growth image.old new) }
-    ensures back { restored_image image.new patch.new ≡ restored_image image.old patch.old }
-    ensures held { IsPatchOf image.old patch.old → IsPatchOf image.new patch.new }
+    ensures back { StillRestores image.old patch.old image.new patch.new }
 {
     patch.write(image, last, &linked_last(image, last, new))?;
     patch.write(image, new, &empty_directory())
@@ -239,8 +235,7 @@ pub fn grow(image: &mut Image, patch: &mut Patch, new: BlockNo) -> Result<(), Al
     requires directory { directory image.old ≢ [] }
     requires new { new < length image.old }
     ensures written { OnOk result (image.new ≡ with_growth image.old new) }
-    ensures back { restored_image image.new patch.new ≡ restored_image image.old patch.old }
-    ensures held { IsPatchOf image.old patch.old → IsPatchOf image.new patch.new }
+    ensures back { StillRestores image.old patch.old image.new patch.new }
 {
     let last = last_directory_block(image);
     grow_after(image, patch, last, new)

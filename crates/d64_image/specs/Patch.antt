@@ -1,5 +1,5 @@
 -- Patches: blocks with the bytes that they had, and the image that they put back.
-use Rattle.std.specs.Prelude.{ℕ, ◌+◌, ◌<◌, ◌≤◌, ◌==◌, not, nat_lt, nat_eq, if◌then◌else◌, Bool, List, [], ◌∷◌, length, map, filter, fold, count_by, All}
+use Rattle.std.specs.Prelude.{◌≡◌, ℕ, ◌+◌, ◌<◌, ◌≤◌, ◌==◌, not, nat_lt, nat_eq, if◌then◌else◌, Bool, List, [], ◌∷◌, length, map, filter, fold, count_by, All}
 use Rattle.std.specs.Cmp.Lexicographic.{pointwise}
 use Rattle.std.specs.List.{list_any, insert}
 use Rattle.d64_image.specs.Disk.{Disk, Bytes}
@@ -39,6 +39,12 @@ is_kept patch block = list_any (λ entry. entry.0 == block) patch
 unfoldable pub with_kept : Kept → ℕ → Bytes → Kept
 with_kept patch block bytes =
     if is_kept patch block then patch else insert patch (count_by (λ entry. nat_lt entry.0 block) patch) (block, bytes)
+
+-- after a change of an image, its patch put back still gives the same image as before it; and if
+-- the patch kept blocks of the image, it still does
+abbrev pub StillRestores : Disk → Kept → Disk → Kept → Type 0
+StillRestores before patch after longer =
+    (restored_image after longer ≡ restored_image before patch) × (IsPatchOf before patch → IsPatchOf after longer)
 
 -- the blocks of a patch, each with the bytes that an image has there
 unfoldable pub taken_blocks : Disk → Kept → Kept

@@ -2,7 +2,7 @@
 ghost use Rattle.std.specs.Prelude.{◌≡◌, ◌<◌, ◌≤◌, ◌++◌, ◌∷◌, false, [], length, nat_lt, count_by, vec_len, vec_capacity, OnOk, OnErr};
 ghost use Rattle.d64_image.specs.declared.block.TheConstants.{BLOCKS};
 ghost use Rattle.d64_image.specs.Image.{sector_at, with_sector};
-ghost use Rattle.d64_image.specs.Patch.{HaveBlocks, IsPatch, IsPatchOf, RisesBetween, restored_image, changed_blocks, is_kept, with_kept, taken_blocks, trimmed_blocks};
+ghost use Rattle.d64_image.specs.Patch.{HaveBlocks, IsPatch, IsPatchOf, RisesBetween, restored_image, changed_blocks, is_kept, with_kept, taken_blocks, trimmed_blocks, StillRestores};
 
 use crate::block::BlockNo;
 use crate::image::{BLOCK_BYTES, Image};
@@ -147,8 +147,7 @@ impl Patch {
         ensures refused { OnErr result (is_kept self.old block ≡ false) }
         ensures unchanged_patch { OnErr result (self.new ≡ self.old) }
         ensures unchanged_image { OnErr result (image.new ≡ image.old) }
-        ensures back { restored_image image.new self.new ≡ restored_image image.old self.old }
-        ensures held { IsPatchOf image.old self.old → IsPatchOf image.new self.new }
+        ensures back { StillRestores image.old self.old image.new self.new }
     {
         if !self.keeps(block) {
             self.keep(block, image.sector(block))?;

@@ -5,7 +5,7 @@ ghost use Rattle.std.specs.FinSet as set;
 ghost use Rattle.d64_image.specs.Block.{first_block};
 ghost use Rattle.d64_image.specs.BlockSet.{MembersAreBelow};
 ghost use Rattle.d64_image.specs.Image.{IsBlock, IsSize, tracks_of, sector_at};
-ghost use Rattle.d64_image.specs.Patch.{IsPatchOf, restored_image};
+ghost use Rattle.d64_image.specs.Patch.{StillRestores};
 ghost use Rattle.d64_map.specs.Track.{members_on};
 ghost use Rattle.d64_map.specs.Map.{map_block, entry_of, IsOfTrack, count_of, bit_in, is_free, free_below, free_blocks, NoneIsFreeBetween, blocks_free, CountsFit, map_byte, with_map};
 
@@ -187,8 +187,7 @@ pub fn put_map(image: &mut Image, patch: &mut Patch, free: &BlockSet) -> Result<
     ensures written { OnOk result (image.new ≡ with_map image.old free.now) }
     ensures free { OnOk result (free_blocks image.new ≡ free.now) }
     ensures counts { OnOk result (CountsFit image.new) }
-    ensures back { restored_image image.new patch.new ≡ restored_image image.old patch.old }
-    ensures held { IsPatchOf image.old patch.old → IsPatchOf image.new patch.new }
+    ensures back { StillRestores image.old patch.old image.new patch.new }
 {
     let mut map = *map_of(image);
     for track in 1..image.tracks() + 1 {

@@ -22,6 +22,5 @@ loop-place-preserved c =
           ap (λ (one : List (List ℕ)). fold with_cleared_slot one (drop (k + 1) places)) next
           ∙ ap (fold with_cleared_slot c.loop-place.image) (sym (drop_more places k 0 within))
           ∙ c.loop-place.invariant.left;
-      held = λ h. c.clear_slot.ensures.held (c.loop-place.invariant.held h);
-      back = c.clear_slot.ensures.back ∙ c.loop-place.invariant.back;
+      back = (c.clear_slot.ensures.back.0 ∙ c.loop-place.invariant.back.0, λ h. c.clear_slot.ensures.back.1 (c.loop-place.invariant.back.1 h));
     }

@@ -2,7 +2,7 @@ use Rattle.std.proofs.Common.{◌≡◌, ℕ, ◌<◌, ◌++◌, length, List, d
 use Rattle.std.proofs.lemmas.List.{length-set}
 use Rattle.std.proofs.Math.ListN.{replicate}
 use Rattle.d64_image.specs.Image.{with_sector}
-use Rattle.d64_image.specs.Patch.{IsPatchOf}
+use Rattle.d64_image.specs.Patch.{StillRestores}
 use Rattle.d64_image.proofs.Sizes.{size_most}
 use Rattle.d64_effects.specs.Format.{blank_disk}
 use Rattle.d64_dos.proofs.Blanks.{one_more, all_blank}
@@ -21,11 +21,10 @@ loop-index-preserved c =
         image = w.image-is ∙ w.in_ok-blank_block-in-Some.ensures.blank
             ∙ ap₂ (λ (held : List (List ℕ)) (block : ℕ). with_sector held block (replicate 256 0)) c.loop-index.invariant.image w.in-Some.ensures.1
             ∙ one_more c.loop-index.index image (replicate 256 0) inside;
-        back = cc;
         long = ap length (w.image-is ∙ w.in_ok-blank_block-in-Some.ensures.blank) ∙ length-set c.loop-index.image _ _ ∙ c.loop-index.invariant.long;
-        held = λ h.
-            subst (λ (made : List (List ℕ)). IsPatchOf made c.match-at.patch) (sym w.image-is)
-            (subst (IsPatchOf w.blank_block.new.image) (sym w.patch-is) (w.blank_block.ensures.held (c.loop-index.invariant.held h)));
+        back = subst (λ (made : List (List ℕ)). StillRestores image c.args.patch.now made c.match-at.patch) (sym w.image-is)
+            (subst (StillRestores image c.args.patch.now w.blank_block.new.image) (sym w.patch-is)
+            (w.blank_block.ensures.back.0 ∙ c.loop-index.invariant.back.0, λ h. w.blank_block.ensures.back.1 (c.loop-index.invariant.back.1 h)));
       }
       | in-None w ↦ absurd (w.in-None.ensures (omega arith))
     ]

@@ -1,12 +1,11 @@
 use Rattle.std.proofs.Common.{◌≡◌, ◌++◌, drop, length}
 use Rattle.std.proofs.Math.ListN.{replicate}
-use Rattle.d64_image.specs.Patch.{IsPatchOf, restored_image}
+use Rattle.d64_image.specs.Patch.{StillRestores}
 use Rattle.d64_dos.proofs.format.blank.Given as goal
 
 abbrev pub invariant-loop-index : goal.invariant-loop-index
 invariant-loop-index l = record {
   image : l.image ≡ replicate l.index (replicate 256 0) ++ drop l.index l.fn.image;
   long : length l.image ≡ length l.fn.image;
-  held : IsPatchOf l.fn.image l.fn.patch → IsPatchOf l.image l.patch;
-  back : restored_image l.image l.patch ≡ restored_image l.fn.image l.fn.patch;
+  back : StillRestores l.fn.image l.fn.patch l.image l.patch;
 }

@@ -14,8 +14,7 @@ loop-place-preserved c =
           c.linked_block.ensures c.in_ok-write.ensures.written
           ∙ c.loop-place.invariant.image;
       long = ap length c.in_ok-write.ensures.written ∙ length-set c.loop-place.image _ _ ∙ c.loop-place.invariant.long;
-      held = λ h. c.write.ensures.held (c.loop-place.invariant.held h);
-      back = c.write.ensures.back ∙ c.loop-place.invariant.back;
+      back = (c.write.ensures.back.0 ∙ c.loop-place.invariant.back.0, λ h. c.write.ensures.back.1 (c.loop-place.invariant.back.1 h));
       count = count_after c.loop-place.place (length c.args.blocks.now) c.loop-place.rest.now inside c.loop-place.invariant.count;
     }
 

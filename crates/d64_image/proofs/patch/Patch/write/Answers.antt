@@ -13,16 +13,14 @@ returns-clause-kept c = elim c.if-not-keeps.branch [
   | else-not-keeps w ↦ w.self-is ∙ sym (with_kept-again c.args.self.now c.args.block (sector_at c.args.image.now c.args.block) (sym c.keeps.ensures ∙ w.if-not-keeps.false))
 ]
 
--- what is written and what is kept go together
+-- what is written and what is kept go together, and the image has each kept block
 pub returns-clause-back : goal.returns-clause-back
-returns-clause-back c =
-    ap (restored_image (with_sector c.args.image.now c.args.block c.args.bytes.now)) (returns-clause-kept c)
-    ∙ restored_image-written c.args.self.now c.args.image.now c.args.block c.args.bytes.now
-
--- the image has each kept block
-pub returns-clause-held : goal.returns-clause-held
-returns-clause-held c h =
-    let image = c.args.image.now in
-    let kept = rises-with_kept c.args.self.now 0 (length image) c.args.block (sector_at image c.args.block) h (omega arith) c.requires in
-    subst (λ (n : ℕ). RisesBetween 0 n c.if-not-keeps.self) (sym (length-set image c.args.block c.args.bytes.now))
-    (subst (IsPatchOf image) (sym (returns-clause-kept c)) kept)
+returns-clause-back c = (
+  ap (restored_image (with_sector c.args.image.now c.args.block c.args.bytes.now)) (returns-clause-kept c)
+      ∙ restored_image-written c.args.self.now c.args.image.now c.args.block c.args.bytes.now,
+  λ h.
+      let image = c.args.image.now in
+      let kept = rises-with_kept c.args.self.now 0 (length image) c.args.block (sector_at image c.args.block) h (omega arith) c.requires in
+      subst (λ (n : ℕ). RisesBetween 0 n c.if-not-keeps.self) (sym (length-set image c.args.block c.args.bytes.now))
+      (subst (IsPatchOf image) (sym (returns-clause-kept c)) kept),
+)
