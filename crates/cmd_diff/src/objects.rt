@@ -1,9 +1,8 @@
 //! What is printed of a change as JSON.
-ghost use Rattle.std.specs.Prelude.{◌≡◌, [], ◌∷◌, ◌++◌, map, codes, option_map, OnOk, IfOk};
+ghost use Rattle.std.specs.Prelude.{◌≡◌, [], ◌∷◌, ◌++◌, map, codes, option_map, IfOk};
 ghost use Rattle.json.specs.Json.{string};
-ghost use Rattle.json.specs.Tree.{json_tokens};
 ghost use Rattle.out_json_csv.specs.Pairs.{block_text as block_text_of};
-ghost use Rattle.out_json_csv.specs.Values.{array_of, line_of, member_tokens};
+ghost use Rattle.out_json_csv.specs.Values.{Prints, PrintsMembers, array_of, line_of};
 ghost use Rattle.out_json_csv.specs.Checks.{label_members};
 ghost use Rattle.cmd_diff.specs.Changes.{DiskChanged, size_members, free_members, disk_object, entry_object};
 ghost use Rattle.cmd_diff.specs.ChangeObject.{change_member, entry_value, slot_members, entry_members, slot_object, disk_members, block_value, blocks_member, blocks_object, change_object};
@@ -25,8 +24,7 @@ const PAIR_LEN: usize = 7;
 
 /// Prints how many tracks the disk has, and whether there are read codes.
 fn put_size(writer: &mut Writer, all: &Inspection) -> Result<(), AllocError>
-    ensures before { writer.new.before ≡ writer.old.before }
-    ensures tokens { OnOk result (writer.new.tokens ≡ writer.old.tokens ++ member_tokens (size_members all.now)) }
+    ensures { PrintsMembers result writer.old writer.new (size_members all.now) }
 {
     put_number(writer, "tracks", u64::from(all.image().tracks()))?;
     put_boolean(writer, "codes", all.codes().is_some())
@@ -34,8 +32,7 @@ fn put_size(writer: &mut Writer, all: &Inspection) -> Result<(), AllocError>
 
 /// Prints the disk's name, its id and its DOS version.
 fn put_label(scratch: &mut Vec<u8>, writer: &mut Writer, image: &Image) -> Result<(), AllocError>
-    ensures before { writer.new.before ≡ writer.old.before }
-    ensures tokens { OnOk result (writer.new.tokens ≡ writer.old.tokens ++ member_tokens (label_members image.now)) }
+    ensures { PrintsMembers result writer.old writer.new (label_members image.now) }
 {
     put_name(scratch, writer, "name", disk_name(image))?;
     put_name(scratch, writer, "id", disk_id(image))?;
@@ -44,16 +41,14 @@ fn put_label(scratch: &mut Vec<u8>, writer: &mut Writer, image: &Image) -> Resul
 
 /// Prints how many blocks are free.
 fn put_free(writer: &mut Writer, image: &Image) -> Result<(), AllocError>
-    ensures before { writer.new.before ≡ writer.old.before }
-    ensures tokens { OnOk result (writer.new.tokens ≡ writer.old.tokens ++ member_tokens (free_members image.now)) }
+    ensures { PrintsMembers result writer.old writer.new (free_members image.now) }
 {
     put_number(writer, "free", u64::from(blocks_free(image)))
 }
 
 /// Prints what is compared of the disk.
 fn put_disk(scratch: &mut Vec<u8>, writer: &mut Writer, all: &Inspection) -> Result<(), AllocError>
-    ensures before { writer.new.before ≡ writer.old.before }
-    ensures tokens { OnOk result (writer.new.tokens ≡ writer.old.tokens ++ json_tokens (disk_object all.now)) }
+    ensures { Prints result writer.old writer.new (disk_object all.now) }
 {
     writer.begin_object()?;
     put_size(writer, all)?;
@@ -64,8 +59,7 @@ fn put_disk(scratch: &mut Vec<u8>, writer: &mut Writer, all: &Inspection) -> Res
 
 /// Prints what is compared of a file.
 fn put_entry(scratch: &mut Vec<u8>, writer: &mut Writer, row: &FileRow) -> Result<(), AllocError>
-    ensures before { writer.new.before ≡ writer.old.before }
-    ensures tokens { OnOk result (writer.new.tokens ≡ writer.old.tokens ++ json_tokens (entry_object row.now)) }
+    ensures { Prints result writer.old writer.new (entry_object row.now) }
 {
     writer.begin_object()?;
     put_file_members(scratch, writer, row)?;
@@ -79,8 +73,7 @@ fn put_file(
     key: &str,
     row: Option<&FileRow>,
 ) -> Result<(), AllocError>
-    ensures before { writer.new.before ≡ writer.old.before }
-    ensures tokens { OnOk result (writer.new.tokens ≡ writer.old.tokens ++ member_tokens ((key.now, entry_value (option_map (λ row. row.now) row.entry)) ∷ [])) }
+    ensures { PrintsMembers result writer.old writer.new ((key.now, entry_value (option_map (λ row. row.now) row.entry)) ∷ []) }
 {
     match row {
         Some(row) => {
@@ -133,8 +126,7 @@ fn block_text(block: BlockNo) -> ArrayString<PAIR_LEN>
 
 /// Prints an array of blocks.
 fn put_blocks(writer: &mut Writer, blocks: &[BlockNo]) -> Result<(), AllocError>
-    ensures before { writer.new.before ≡ writer.old.before }
-    ensures tokens { OnOk result (writer.new.tokens ≡ writer.old.tokens ++ json_tokens (array_of (map block_value blocks.now))) }
+    ensures { Prints result writer.old writer.new (array_of (map block_value blocks.now)) }
 {
     writer.begin_array()?;
     for block in blocks {
@@ -146,8 +138,7 @@ fn put_blocks(writer: &mut Writer, blocks: &[BlockNo]) -> Result<(), AllocError>
 
 /// Prints the member of blocks.
 fn put_block_list(writer: &mut Writer, blocks: &[BlockNo]) -> Result<(), AllocError>
-    ensures before { writer.new.before ≡ writer.old.before }
-    ensures tokens { OnOk result (writer.new.tokens ≡ writer.old.tokens ++ member_tokens (blocks_member blocks.now ∷ [])) }
+    ensures { PrintsMembers result writer.old writer.new (blocks_member blocks.now ∷ []) }
 {
     writer.key("blocks")?;
     put_blocks(writer, blocks)
@@ -178,8 +169,7 @@ fn put_disks(
     old: &Inspection,
     new: &Inspection,
 ) -> Result<(), AllocError>
-    ensures before { writer.new.before ≡ writer.old.before }
-    ensures tokens { OnOk result (writer.new.tokens ≡ writer.old.tokens ++ member_tokens (disk_members old.now new.now)) }
+    ensures { PrintsMembers result writer.old writer.new (disk_members old.now new.now) }
 {
     writer.key("old")?;
     put_disk(scratch, writer, old)?;
@@ -208,8 +198,7 @@ pub(crate) fn disks_json(
 
 /// Prints a slot and how it changed.
 fn put_slot(writer: &mut Writer, slot: usize, word: &str) -> Result<(), AllocError>
-    ensures before { writer.new.before ≡ writer.old.before }
-    ensures tokens { OnOk result (writer.new.tokens ≡ writer.old.tokens ++ member_tokens (slot_members slot word.now)) }
+    ensures { PrintsMembers result writer.old writer.new (slot_members slot word.now) }
 {
     put_number(writer, "slot", slot as u64)?;
     put_text(writer, "change", word)
@@ -222,8 +211,7 @@ fn put_files(
     old: Option<&FileRow>,
     new: Option<&FileRow>,
 ) -> Result<(), AllocError>
-    ensures before { writer.new.before ≡ writer.old.before }
-    ensures tokens { OnOk result (writer.new.tokens ≡ writer.old.tokens ++ member_tokens (entry_members (option_map (λ row. row.now) old.entry) (option_map (λ row. row.now) new.entry))) }
+    ensures { PrintsMembers result writer.old writer.new (entry_members (option_map (λ row. row.now) old.entry) (option_map (λ row. row.now) new.entry)) }
 {
     put_file(scratch, writer, "old", old)?;
     put_file(scratch, writer, "new", new)

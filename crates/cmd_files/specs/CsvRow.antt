@@ -17,19 +17,21 @@ columns =
     codes "image" ∷ codes "slot" ∷ codes "name" ∷ codes "field" ∷ codes "kind" ∷ codes "type" ∷ codes "closed" ∷ codes "locked" ∷ codes "size" ∷ codes "first" ∷ codes "record"
     ∷ codes "blocks" ∷ codes "side" ∷ codes "bytes" ∷ codes "sha256" ∷ codes "whole" ∷ codes "why" ∷ codes "conditions" ∷ codes "read_errors" ∷ []
 
--- whether files were deleted, where deleted ones are wanted, and whether they are orphans, where
--- those are
-abbrev pub leftover_columns : Leftovers → List (List ℕ)
-leftover_columns leftovers = (if leftovers.deleted then codes "deleted" ∷ [] else []) ++ (if leftovers.orphans then codes "orphan" ∷ [] else [])
+-- texts in the columns of leftovers that are wanted: of deleted files, and of orphans
+abbrev pub leftover_texts : Leftovers → List ℕ → List ℕ → List (List ℕ)
+leftover_texts leftovers deleted orphan = (if leftovers.deleted then deleted ∷ [] else []) ++ (if leftovers.orphans then orphan ∷ [] else [])
 
--- the same of a row
+-- the names of these columns
+abbrev pub leftover_columns : Leftovers → List (List ℕ)
+leftover_columns leftovers = leftover_texts leftovers (codes "deleted") (codes "orphan")
+
+-- whether the file of a row was deleted, and whether it is an orphan
 abbrev pub leftover_fields : Leftovers → Row → List (List ℕ)
-leftover_fields leftovers row =
-    (if leftovers.deleted then truth_text (is_deleted row) ∷ [] else []) ++ (if leftovers.orphans then truth_text (is_orphan row) ∷ [] else [])
+leftover_fields leftovers row = leftover_texts leftovers (truth_text (is_deleted row)) (truth_text (is_orphan row))
 
 -- nothing in these columns
 abbrev pub leftover_blanks : Leftovers → List (List ℕ)
-leftover_blanks leftovers = (if leftovers.deleted then [] ∷ [] else []) ++ (if leftovers.orphans then [] ∷ [] else [])
+leftover_blanks leftovers = leftover_texts leftovers [] []
 
 -- fields and an error on a line of their own
 abbrev pub row_with : List (List ℕ) → List ℕ → List ℕ

@@ -1,26 +1,21 @@
 //! What is printed of a file, also of a deleted one, as CSV.
 ghost use Rattle.std.specs.Prelude.{◌≡◌, [], ◌∷◌, ◌++◌, codes, decimal, OnOk, IfOk};
 ghost use Rattle.std.specs.Option.{option_map_or};
-ghost use Rattle.csv.specs.Records.{fields_of, partial_of};
 ghost use Rattle.out_messages.specs.FileText.{kind_letters};
 ghost use Rattle.cmd_files.specs.FileRow.{decimal_or_empty, truth_or_empty, name_fields, type_fields, entry_fields, way_fields, content_fields, state_fields, file_fields};
 ghost use Rattle.cmd_files.specs.DeletedRow.{deleted_fields};
 ghost use Rattle.cmd_files.specs.OrphanRow.{orphan_fields};
 ghost use Rattle.out_json_csv.specs.Rows.{host_field};
-ghost use Rattle.cmd_files.specs.CsvRow.{place_fields, row_fields, leftover_columns, leftover_fields, leftover_blanks, csv_row, columns, header_row, name_alone, unanswered_row};
+ghost use Rattle.cmd_files.specs.CsvRow.{place_fields, row_fields, leftover_texts, leftover_fields, csv_row, columns, header_row, name_alone, unanswered_row};
 ghost use Rattle.out_json_csv.specs.Unanswered.{no_dump_error};
 
 use crate::deleted_field::push_deleted_fields;
 use crate::orphan_field::push_orphan_fields;
 use crate::spaced::{spell_flaws, spell_numbers};
-use csv::ByteRecord;
 use d64_files::{Kind, name_in};
 use d64_inventory::{Content, FileRow};
 use d64_leftovers::{DeletedRow, OrphanRow, Row};
-use out_json_csv::{
-    Scratch, UNREAD, end_row, no_dump_error, push_boolean, push_field, push_fields,
-    push_hexadecimal, push_host_name, push_name, push_number, push_pair,
-};
+use out_json_csv::{CsvRow, Scratch, UNREAD, end_row, no_dump_error};
 use out_messages::kind_letters;
 use program_arguments::Leftovers;
 use std::alloc::AllocError;
@@ -54,111 +49,95 @@ const EMPTY: [&[u8]; 18] = [b""; 18];
 /// Appends the name, and the field in which it is, to a row.
 pub(crate) fn push_names(
     scratch: &mut Vec<u8>,
-    line: &mut ByteRecord,
+    line: &mut CsvRow,
     field: &[u8; 16],
 ) -> Result<(), AllocError>
-    requires { partial_of line.old ≡ [] }
-    ensures fields { OnOk result (fields_of line.new ≡ fields_of line.old ++ name_fields field.now) }
-    ensures whole { OnOk result (partial_of line.new ≡ []) }
+    ensures { OnOk result (line.new ≡ line.old ++ name_fields field.now) }
 {
-    push_name(scratch, line, name_in(field))?;
-    push_hexadecimal(scratch, line, field)
+    line.push_name(scratch, name_in(field))?;
+    line.push_hexadecimal(scratch, field)
 }
 
 /// Appends the letters of a kind to a row, or an empty field.
-fn push_kind(line: &mut ByteRecord, kind: Option<Kind>) -> Result<(), AllocError>
-    requires { partial_of line.old ≡ [] }
-    ensures fields { OnOk result (fields_of line.new ≡ fields_of line.old ++ option_map_or kind_letters kind [] ∷ []) }
-    ensures whole { OnOk result (partial_of line.new ≡ []) }
+fn push_kind(line: &mut CsvRow, kind: Option<Kind>) -> Result<(), AllocError>
+    ensures { OnOk result (line.new ≡ line.old ++ option_map_or kind_letters kind [] ∷ []) }
 {
     match kind {
-        Some(kind) => push_field(line, kind_letters(kind).as_bytes()),
-        None => push_field(line, b""),
+        Some(kind) => line.push_field(kind_letters(kind).as_bytes()),
+        None => line.push_field(b""),
     }
 }
 
 /// Appends a number to a row, or an empty field.
-pub(crate) fn push_count(line: &mut ByteRecord, count: Option<usize>) -> Result<(), AllocError>
-    requires { partial_of line.old ≡ [] }
-    ensures fields { OnOk result (fields_of line.new ≡ fields_of line.old ++ decimal_or_empty count ∷ []) }
-    ensures whole { OnOk result (partial_of line.new ≡ []) }
+pub(crate) fn push_count(line: &mut CsvRow, count: Option<usize>) -> Result<(), AllocError>
+    ensures { OnOk result (line.new ≡ line.old ++ decimal_or_empty count ∷ []) }
 {
     match count {
-        Some(count) => push_number(line, count as u64),
-        None => push_field(line, b""),
+        Some(count) => line.push_number(count as u64),
+        None => line.push_field(b""),
     }
 }
 
 /// Appends the length of a record to a row, or an empty field.
-fn push_record(line: &mut ByteRecord, length: Option<u8>) -> Result<(), AllocError>
-    requires { partial_of line.old ≡ [] }
-    ensures fields { OnOk result (fields_of line.new ≡ fields_of line.old ++ decimal_or_empty length ∷ []) }
-    ensures whole { OnOk result (partial_of line.new ≡ []) }
+fn push_record(line: &mut CsvRow, length: Option<u8>) -> Result<(), AllocError>
+    ensures { OnOk result (line.new ≡ line.old ++ decimal_or_empty length ∷ []) }
 {
     match length {
-        Some(length) => push_number(line, u64::from(length)),
-        None => push_field(line, b""),
+        Some(length) => line.push_number(u64::from(length)),
+        None => line.push_field(b""),
     }
 }
 
 /// Appends `true`, `false`, or an empty field to a row.
-pub(crate) fn push_answer(line: &mut ByteRecord, answer: Option<bool>) -> Result<(), AllocError>
-    requires { partial_of line.old ≡ [] }
-    ensures fields { OnOk result (fields_of line.new ≡ fields_of line.old ++ truth_or_empty answer ∷ []) }
-    ensures whole { OnOk result (partial_of line.new ≡ []) }
+pub(crate) fn push_answer(line: &mut CsvRow, answer: Option<bool>) -> Result<(), AllocError>
+    ensures { OnOk result (line.new ≡ line.old ++ truth_or_empty answer ∷ []) }
 {
     match answer {
-        Some(answer) => push_boolean(line, answer),
-        None => push_field(line, b""),
+        Some(answer) => line.push_boolean(answer),
+        None => line.push_field(b""),
     }
 }
 
 /// Appends the kind, and the type byte with what it says of the file, whether it is closed and
 /// whether it is locked, to a row.
 pub(crate) fn push_type(
-    line: &mut ByteRecord,
+    line: &mut CsvRow,
     kind: Option<Kind>,
     type_byte: u8,
     closed: bool,
     locked: bool,
 ) -> Result<(), AllocError>
-    requires { partial_of line.old ≡ [] }
-    ensures fields { OnOk result (fields_of line.new ≡ fields_of line.old ++ type_fields kind type_byte closed locked) }
-    ensures whole { OnOk result (partial_of line.new ≡ []) }
+    ensures { OnOk result (line.new ≡ line.old ++ type_fields kind type_byte closed locked) }
 {
     push_kind(line, kind)?;
-    push_number(line, u64::from(type_byte))?;
-    push_boolean(line, closed)?;
-    push_boolean(line, locked)
+    line.push_number(u64::from(type_byte))?;
+    line.push_boolean(closed)?;
+    line.push_boolean(locked)
 }
 
 /// Appends the size that the directory has, the pair of the first block, and the length of a
 /// record, to a row.
 pub(crate) fn push_entry(
-    line: &mut ByteRecord,
+    line: &mut CsvRow,
     size: u16,
     first: (u8, u8),
     record_length: Option<u8>,
 ) -> Result<(), AllocError>
-    requires { partial_of line.old ≡ [] }
-    ensures fields { OnOk result (fields_of line.new ≡ fields_of line.old ++ entry_fields size first record_length) }
-    ensures whole { OnOk result (partial_of line.new ≡ []) }
+    ensures { OnOk result (line.new ≡ line.old ++ entry_fields size first record_length) }
 {
     let (track, sector) = first;
-    push_number(line, u64::from(size))?;
-    push_pair(line, track, sector)?;
+    line.push_number(u64::from(size))?;
+    line.push_pair(track, sector)?;
     push_record(line, record_length)
 }
 
 /// Appends how many blocks the data chain and the side chain have, to a row.
 pub(crate) fn push_ways(
-    line: &mut ByteRecord,
+    line: &mut CsvRow,
     blocks: Option<usize>,
     side: Option<usize>,
 ) -> Result<(), AllocError>
-    requires { partial_of line.old ≡ [] }
-    ensures fields { OnOk result (fields_of line.new ≡ fields_of line.old ++ way_fields blocks side) }
-    ensures whole { OnOk result (partial_of line.new ≡ []) }
+    ensures { OnOk result (line.new ≡ line.old ++ way_fields blocks side) }
 {
     push_count(line, blocks)?;
     push_count(line, side)
@@ -167,49 +146,43 @@ pub(crate) fn push_ways(
 /// Appends how many bytes the content has, and their digest, to a row.
 pub(crate) fn push_content(
     scratch: &mut Vec<u8>,
-    line: &mut ByteRecord,
+    line: &mut CsvRow,
     content: Option<Content>,
 ) -> Result<(), AllocError>
-    requires { partial_of line.old ≡ [] }
-    ensures fields { OnOk result (fields_of line.new ≡ fields_of line.old ++ content_fields content) }
-    ensures whole { OnOk result (partial_of line.new ≡ []) }
+    ensures { OnOk result (line.new ≡ line.old ++ content_fields content) }
 {
     match content {
         Some(content) => {
-            push_number(line, content.bytes as u64)?;
-            push_hexadecimal(scratch, line, &content.digest)
+            line.push_number(content.bytes as u64)?;
+            line.push_hexadecimal(scratch, &content.digest)
         }
         None => {
-            push_field(line, b"")?;
-            push_field(line, b"")
+            line.push_field(b"")?;
+            line.push_field(b"")
         }
     }
 }
 
 /// Appends whether the file is whole, why not, the conditions that it breaks, and how many of its
 /// blocks have a read error, to a row.
-fn push_state(scratch: &mut Vec<u8>, line: &mut ByteRecord, row: &FileRow) -> Result<(), AllocError>
-    requires { partial_of line.old ≡ [] }
-    ensures fields { OnOk result (fields_of line.new ≡ fields_of line.old ++ state_fields row.now) }
-    ensures whole { OnOk result (partial_of line.new ≡ []) }
+fn push_state(scratch: &mut Vec<u8>, line: &mut CsvRow, row: &FileRow) -> Result<(), AllocError>
+    ensures { OnOk result (line.new ≡ line.old ++ state_fields row.now) }
 {
     push_answer(line, row.whole)?;
     spell_flaws(scratch, row.why.as_slice())?;
-    push_field(line, scratch.as_slice())?;
+    line.push_field(scratch.as_slice())?;
     spell_numbers(scratch, row.conditions.as_slice())?;
-    push_field(line, scratch.as_slice())?;
-    push_number(line, row.read_errors as u64)
+    line.push_field(scratch.as_slice())?;
+    line.push_number(row.read_errors as u64)
 }
 
 /// Appends the fields of a file, without the image and the slot, to a row.
 pub fn push_file_fields(
     scratch: &mut Vec<u8>,
-    line: &mut ByteRecord,
+    line: &mut CsvRow,
     row: &FileRow,
 ) -> Result<(), AllocError>
-    requires { partial_of line.old ≡ [] }
-    ensures fields { OnOk result (fields_of line.new ≡ fields_of line.old ++ file_fields row.now) }
-    ensures whole { OnOk result (partial_of line.new ≡ []) }
+    ensures { OnOk result (line.new ≡ line.old ++ file_fields row.now) }
 {
     push_names(scratch, line, &row.field)?;
     push_type(line, row.kind, row.type_byte, row.closed, row.locked)?;
@@ -221,18 +194,16 @@ pub fn push_file_fields(
 
 /// Begins a row: the name of the image, and the slot.
 fn begin_place(scratch: &mut Scratch, name: &[u8], slot: usize) -> Result<(), AllocError>
-    ensures fields { OnOk result (fields_of scratch.new.row ≡ place_fields name.now slot) }
-    ensures whole { OnOk result (partial_of scratch.new.row ≡ []) }
+    ensures { OnOk result (scratch.new.row ≡ place_fields name.now slot) }
 {
     scratch.row.clear();
-    push_host_name(&mut scratch.text, &mut scratch.row, name)?;
-    push_number(&mut scratch.row, slot as u64)
+    scratch.row.push_host_name(&mut scratch.text, name)?;
+    scratch.row.push_number(slot as u64)
 }
 
 /// Begins the row of a file that is there: the name of its image, the slot, and the file's fields.
 fn begin_file_row(scratch: &mut Scratch, name: &[u8], file: &FileRow) -> Result<(), AllocError>
-    ensures fields { OnOk result (fields_of scratch.new.row ≡ place_fields name.now file.now.slot ++ file_fields file.now) }
-    ensures whole { OnOk result (partial_of scratch.new.row ≡ []) }
+    ensures { OnOk result (scratch.new.row ≡ place_fields name.now file.now.slot ++ file_fields file.now) }
 {
     begin_place(scratch, name, file.slot)?;
     push_file_fields(&mut scratch.text, &mut scratch.row, file)
@@ -244,8 +215,7 @@ fn begin_deleted_row(
     name: &[u8],
     file: &DeletedRow,
 ) -> Result<(), AllocError>
-    ensures fields { OnOk result (fields_of scratch.new.row ≡ place_fields name.now file.now.slot ++ deleted_fields file.now) }
-    ensures whole { OnOk result (partial_of scratch.new.row ≡ []) }
+    ensures { OnOk result (scratch.new.row ≡ place_fields name.now file.now.slot ++ deleted_fields file.now) }
 {
     begin_place(scratch, name, file.slot)?;
     push_deleted_fields(&mut scratch.text, &mut scratch.row, file)
@@ -253,8 +223,7 @@ fn begin_deleted_row(
 
 /// Begins the row of an orphan, which has no slot.
 fn begin_orphan_row(scratch: &mut Scratch, name: &[u8], chain: &OrphanRow) -> Result<(), AllocError>
-    ensures fields { OnOk result (fields_of scratch.new.row ≡ (host_field name.now ∷ [] ∷ []) ++ orphan_fields chain.now) }
-    ensures whole { OnOk result (partial_of scratch.new.row ≡ []) }
+    ensures { OnOk result (scratch.new.row ≡ (host_field name.now ∷ [] ∷ []) ++ orphan_fields chain.now) }
 {
     begin_orphan_place(scratch, name)?;
     push_orphan_fields(&mut scratch.text, &mut scratch.row, chain)
@@ -262,19 +231,17 @@ fn begin_orphan_row(scratch: &mut Scratch, name: &[u8], chain: &OrphanRow) -> Re
 
 /// Begins a row: the name of the image, and no slot.
 fn begin_orphan_place(scratch: &mut Scratch, name: &[u8]) -> Result<(), AllocError>
-    ensures fields { OnOk result (fields_of scratch.new.row ≡ host_field name.now ∷ [] ∷ []) }
-    ensures whole { OnOk result (partial_of scratch.new.row ≡ []) }
+    ensures { OnOk result (scratch.new.row ≡ host_field name.now ∷ [] ∷ []) }
 {
     scratch.row.clear();
-    push_host_name(&mut scratch.text, &mut scratch.row, name)?;
-    push_field(&mut scratch.row, b"")
+    scratch.row.push_host_name(&mut scratch.text, name)?;
+    scratch.row.push_field(b"")
 }
 
 /// Begins the row of a file, also of a deleted one, or of an orphan.
 #[tactic(auto, unfolding(crate::specs::CsvRow::row_fields))]
 pub(crate) fn begin_row(scratch: &mut Scratch, name: &[u8], row: &Row) -> Result<(), AllocError>
-    ensures fields { OnOk result (fields_of scratch.new.row ≡ row_fields name.now row.now) }
-    ensures whole { OnOk result (partial_of scratch.new.row ≡ []) }
+    ensures { OnOk result (scratch.new.row ≡ row_fields name.now row.now) }
 {
     match row {
         Row::File(file) => begin_file_row(scratch, name, file),
@@ -286,54 +253,34 @@ pub(crate) fn begin_row(scratch: &mut Scratch, name: &[u8], row: &Row) -> Result
 /// Appends whether the file of a row was deleted, if deleted files are wanted, to a row of CSV.
 pub(crate) fn push_leftover_fields(
     leftovers: Leftovers,
-    line: &mut ByteRecord,
+    line: &mut CsvRow,
     row: &Row,
 ) -> Result<(), AllocError>
-    requires { partial_of line.old ≡ [] }
-    ensures fields { OnOk result (fields_of line.new ≡ fields_of line.old ++ leftover_fields leftovers row.now) }
-    ensures whole { OnOk result (partial_of line.new ≡ []) }
+    ensures { OnOk result (line.new ≡ line.old ++ leftover_fields leftovers row.now) }
 {
     if leftovers.deleted {
-        push_boolean(line, row.is_deleted())?;
+        line.push_boolean(row.is_deleted())?;
     }
     if leftovers.orphans {
-        push_boolean(line, row.is_orphan())?;
+        line.push_boolean(row.is_orphan())?;
     }
     Ok(())
 }
 
-/// Appends the columns of leftovers to a header row.
-pub(crate) fn push_leftover_columns(
+/// Appends texts in the columns of leftovers that are wanted: of deleted files, and of orphans.
+pub(crate) fn push_leftovers(
     leftovers: Leftovers,
-    line: &mut ByteRecord,
+    line: &mut CsvRow,
+    deleted: &[u8],
+    orphan: &[u8],
 ) -> Result<(), AllocError>
-    requires { partial_of line.old ≡ [] }
-    ensures fields { OnOk result (fields_of line.new ≡ fields_of line.old ++ leftover_columns leftovers) }
-    ensures whole { OnOk result (partial_of line.new ≡ []) }
+    ensures { OnOk result (line.new ≡ line.old ++ leftover_texts leftovers deleted.now orphan.now) }
 {
     if leftovers.deleted {
-        push_field(line, b"deleted")?;
+        line.push_field(deleted)?;
     }
     if leftovers.orphans {
-        push_field(line, b"orphan")?;
-    }
-    Ok(())
-}
-
-/// Appends an empty field for each column of leftovers to a row.
-pub(crate) fn push_leftover_blanks(
-    leftovers: Leftovers,
-    line: &mut ByteRecord,
-) -> Result<(), AllocError>
-    requires { partial_of line.old ≡ [] }
-    ensures fields { OnOk result (fields_of line.new ≡ fields_of line.old ++ leftover_blanks leftovers) }
-    ensures whole { OnOk result (partial_of line.new ≡ []) }
-{
-    if leftovers.deleted {
-        push_field(line, b"")?;
-    }
-    if leftovers.orphans {
-        push_field(line, b"")?;
+        line.push_field(orphan)?;
     }
     Ok(())
 }
@@ -355,11 +302,10 @@ pub fn row_csv(
 
 /// Begins the header row: the columns but for those of leftovers and the error.
 pub(crate) fn begin_header(scratch: &mut Scratch) -> Result<(), AllocError>
-    ensures fields { OnOk result (fields_of scratch.new.row ≡ columns) }
-    ensures whole { OnOk result (partial_of scratch.new.row ≡ []) }
+    ensures { OnOk result (scratch.new.row ≡ columns) }
 {
     scratch.row.clear();
-    push_fields(&mut scratch.row, &COLUMNS)
+    scratch.row.push_fields(&COLUMNS)
 }
 
 /// Appends the header row to a text.
@@ -371,18 +317,17 @@ pub fn files_header(
     ensures { IfOk result (λ text. text.items ≡ out.items ++ header_row leftovers) }
 {
     begin_header(scratch)?;
-    push_leftover_columns(leftovers, &mut scratch.row)?;
+    push_leftovers(leftovers, &mut scratch.row, b"deleted", b"orphan")?;
     end_row(&mut scratch.row, b"error", out)
 }
 
 /// Begins a row with only a name.
 pub(crate) fn begin_name_alone(scratch: &mut Scratch, name: &[u8]) -> Result<(), AllocError>
-    ensures fields { OnOk result (fields_of scratch.new.row ≡ name_alone name.now) }
-    ensures whole { OnOk result (partial_of scratch.new.row ≡ []) }
+    ensures { OnOk result (scratch.new.row ≡ name_alone name.now) }
 {
     scratch.row.clear();
-    push_host_name(&mut scratch.text, &mut scratch.row, name)?;
-    push_fields(&mut scratch.row, &EMPTY)
+    scratch.row.push_host_name(&mut scratch.text, name)?;
+    scratch.row.push_fields(&EMPTY)
 }
 
 /// Appends a row with only a name and an error.
@@ -396,7 +341,7 @@ fn push_unanswered(
     ensures { IfOk result (λ text. text.items ≡ out.items ++ unanswered_row leftovers name.now error.now) }
 {
     begin_name_alone(scratch, name)?;
-    push_leftover_blanks(leftovers, &mut scratch.row)?;
+    push_leftovers(leftovers, &mut scratch.row, b"", b"")?;
     end_row(&mut scratch.row, error, out)
 }
 

@@ -1,7 +1,6 @@
 //! A deleted file as members of a JSON object.
-ghost use Rattle.std.specs.Prelude.{◌≡◌, [], ◌∷◌, ◌++◌, map, codes, OnOk};
-ghost use Rattle.json.specs.Tree.{json_tokens};
-ghost use Rattle.out_json_csv.specs.Values.{array_of, member_tokens};
+ghost use Rattle.std.specs.Prelude.{[], ◌∷◌, map, codes};
+ghost use Rattle.out_json_csv.specs.Values.{Prints, PrintsMembers, array_of};
 ghost use Rattle.cmd_files.specs.DeletedObject.{loss_value, loss_members, deleted_members};
 
 use crate::file_member::{
@@ -16,8 +15,7 @@ use std::alloc::AllocError;
 
 /// Prints an array of reasons.
 fn put_losses(writer: &mut Writer, losses: &[Loss]) -> Result<(), AllocError>
-    ensures before { writer.new.before ≡ writer.old.before }
-    ensures tokens { OnOk result (writer.new.tokens ≡ writer.old.tokens ++ json_tokens (array_of (map loss_value losses.now))) }
+    ensures { Prints result writer.old writer.new (array_of (map loss_value losses.now)) }
 {
     writer.begin_array()?;
     for loss in losses {
@@ -28,8 +26,7 @@ fn put_losses(writer: &mut Writer, losses: &[Loss]) -> Result<(), AllocError>
 
 /// Prints why a deleted file isn't whole.
 fn put_why(writer: &mut Writer, losses: &[Loss]) -> Result<(), AllocError>
-    ensures before { writer.new.before ≡ writer.old.before }
-    ensures tokens { OnOk result (writer.new.tokens ≡ writer.old.tokens ++ member_tokens ((codes "why", array_of (map loss_value losses.now)) ∷ [])) }
+    ensures { PrintsMembers result writer.old writer.new ((codes "why", array_of (map loss_value losses.now)) ∷ []) }
 {
     writer.key("why")?;
     put_losses(writer, losses)
@@ -38,8 +35,7 @@ fn put_why(writer: &mut Writer, losses: &[Loss]) -> Result<(), AllocError>
 /// Prints whether a deleted file is whole, why not, no conditions, and how many of its blocks have a
 /// read error.
 fn put_state(writer: &mut Writer, row: &DeletedRow) -> Result<(), AllocError>
-    ensures before { writer.new.before ≡ writer.old.before }
-    ensures tokens { OnOk result (writer.new.tokens ≡ writer.old.tokens ++ member_tokens (loss_members row.now)) }
+    ensures { PrintsMembers result writer.old writer.new (loss_members row.now) }
 {
     put_answer(writer, "whole", Some(row.losses.is_empty()))?;
     put_why(writer, row.losses.as_slice())?;
@@ -54,8 +50,7 @@ pub(crate) fn put_deleted_members(
     writer: &mut Writer,
     row: &DeletedRow,
 ) -> Result<(), AllocError>
-    ensures before { writer.new.before ≡ writer.old.before }
-    ensures tokens { OnOk result (writer.new.tokens ≡ writer.old.tokens ++ member_tokens (deleted_members row.now)) }
+    ensures { PrintsMembers result writer.old writer.new (deleted_members row.now) }
 {
     put_names(scratch, writer, &row.field)?;
     put_type(writer, None, 0, false, false)?;

@@ -1,24 +1,19 @@
 //! What is printed of a file that is written to the host: what `files` prints, and the path of the
 //! host file.
 ghost use Rattle.std.specs.Prelude.{◌≡◌, [], ◌∷◌, ◌++◌, option_map, OnOk, IfOk};
-ghost use Rattle.csv.specs.Records.{fields_of, partial_of};
-ghost use Rattle.out_json_csv.specs.Values.{line_of, member_tokens};
+ghost use Rattle.out_json_csv.specs.Values.{PrintsMembers, line_of};
 ghost use Rattle.cmd_files.specs.Extracted.{path_member, path_field, path_text, extracted_object, extracted_row, extracted_line, extracted_header, unextracted_row};
 
 use crate::csv_line::{
-    begin_header, begin_name_alone, begin_row, push_leftover_blanks, push_leftover_columns,
-    push_leftover_fields,
+    begin_header, begin_name_alone, begin_row, push_leftover_fields, push_leftovers,
 };
 use crate::json_line::{put_leftover_members, put_row_members};
 use crate::row_text::push_row_text;
-use csv::ByteRecord;
 use d64_leftovers::Row;
 use d64_survey::Survey;
 use host_names::push_shown;
 use json::Writer;
-use out_json_csv::{
-    Scratch, end_row, into_line, push_field, push_host_name, put_host_name, put_null,
-};
+use out_json_csv::{CsvRow, Scratch, end_row, into_line, put_host_name, put_null};
 use program_arguments::Leftovers;
 use std::alloc::AllocError;
 
@@ -28,8 +23,7 @@ fn put_path(
     writer: &mut Writer,
     path: Option<&[u8]>,
 ) -> Result<(), AllocError>
-    ensures before { writer.new.before ≡ writer.old.before }
-    ensures tokens { OnOk result (writer.new.tokens ≡ writer.old.tokens ++ member_tokens (path_member (option_map (λ p. p.now) path.entry) ∷ [])) }
+    ensures { PrintsMembers result writer.old writer.new (path_member (option_map (λ p. p.now) path.entry) ∷ []) }
 {
     match path {
         Some(path) => put_host_name(scratch, writer, "file", path),
@@ -63,16 +57,14 @@ pub(crate) fn extracted_json(
 /// Appends the path of a host file to a row, or an empty field.
 fn push_path_field(
     scratch: &mut Vec<u8>,
-    row: &mut ByteRecord,
+    row: &mut CsvRow,
     path: Option<&[u8]>,
 ) -> Result<(), AllocError>
-    requires { partial_of row.old ≡ [] }
-    ensures fields { OnOk result (fields_of row.new ≡ fields_of row.old ++ path_field (option_map (λ p. p.now) path.entry) ∷ []) }
-    ensures whole { OnOk result (partial_of row.new ≡ []) }
+    ensures { OnOk result (row.new ≡ row.old ++ path_field (option_map (λ p. p.now) path.entry) ∷ []) }
 {
     match path {
-        Some(path) => push_host_name(scratch, row, path),
-        None => push_field(row, b""),
+        Some(path) => row.push_host_name(scratch, path),
+        None => row.push_field(b""),
     }
 }
 
@@ -131,8 +123,8 @@ pub(crate) fn extracted_header(
     ensures { IfOk result (λ text. text.items ≡ out.items ++ extracted_header leftovers) }
 {
     begin_header(scratch)?;
-    push_field(&mut scratch.row, b"file")?;
-    push_leftover_columns(leftovers, &mut scratch.row)?;
+    scratch.row.push_field(b"file")?;
+    push_leftovers(leftovers, &mut scratch.row, b"deleted", b"orphan")?;
     end_row(&mut scratch.row, b"error", out)
 }
 
@@ -147,7 +139,7 @@ pub(crate) fn unextracted_csv(
     ensures { IfOk result (λ text. text.items ≡ out.items ++ unextracted_row leftovers name.now error.now) }
 {
     begin_name_alone(scratch, name)?;
-    push_field(&mut scratch.row, b"")?;
-    push_leftover_blanks(leftovers, &mut scratch.row)?;
+    scratch.row.push_field(b"")?;
+    push_leftovers(leftovers, &mut scratch.row, b"", b"")?;
     end_row(&mut scratch.row, error, out)
 }

@@ -1,8 +1,7 @@
 //! A file on a disk as members of a JSON object.
-ghost use Rattle.std.specs.Prelude.{◌≡◌, [], ◌∷◌, ◌++◌, map, codes, OnOk};
+ghost use Rattle.std.specs.Prelude.{[], ◌∷◌, map, codes};
 ghost use Rattle.json.specs.Json.{string};
-ghost use Rattle.json.specs.Tree.{json_tokens};
-ghost use Rattle.out_json_csv.specs.Values.{array_of, member_tokens, numeral, numeral_or_null};
+ghost use Rattle.out_json_csv.specs.Values.{Prints, PrintsMembers, array_of, numeral, numeral_or_null};
 ghost use Rattle.cmd_files.specs.FileObject.{kind_value, boolean_or_null, bytes_value, digest_value, flaw_value, name_members, type_members, entry_members, way_members, content_members, state_members, file_members};
 
 use crate::flaw_word::flaw_word;
@@ -22,8 +21,7 @@ pub(crate) fn put_names(
     writer: &mut Writer,
     field: &[u8; 16],
 ) -> Result<(), AllocError>
-    ensures before { writer.new.before ≡ writer.old.before }
-    ensures tokens { OnOk result (writer.new.tokens ≡ writer.old.tokens ++ member_tokens (name_members field.now)) }
+    ensures { PrintsMembers result writer.old writer.new (name_members field.now) }
 {
     put_name(scratch, writer, "name", name_in(field))?;
     put_hexadecimal(scratch, writer, "field", field)
@@ -31,8 +29,7 @@ pub(crate) fn put_names(
 
 /// Prints a kind, or null.
 fn put_kind(writer: &mut Writer, key: &str, kind: Option<Kind>) -> Result<(), AllocError>
-    ensures before { writer.new.before ≡ writer.old.before }
-    ensures tokens { OnOk result (writer.new.tokens ≡ writer.old.tokens ++ member_tokens ((key.now, kind_value kind) ∷ [])) }
+    ensures { PrintsMembers result writer.old writer.new ((key.now, kind_value kind) ∷ []) }
 {
     match kind {
         Some(kind) => put_text(writer, key, kind_letters(kind)),
@@ -46,8 +43,7 @@ pub(crate) fn put_count(
     key: &str,
     count: Option<usize>,
 ) -> Result<(), AllocError>
-    ensures before { writer.new.before ≡ writer.old.before }
-    ensures tokens { OnOk result (writer.new.tokens ≡ writer.old.tokens ++ member_tokens ((key.now, numeral_or_null count) ∷ [])) }
+    ensures { PrintsMembers result writer.old writer.new ((key.now, numeral_or_null count) ∷ []) }
 {
     match count {
         Some(count) => put_number(writer, key, count as u64),
@@ -57,8 +53,7 @@ pub(crate) fn put_count(
 
 /// Prints the length of a record, or null.
 fn put_record(writer: &mut Writer, key: &str, length: Option<u8>) -> Result<(), AllocError>
-    ensures before { writer.new.before ≡ writer.old.before }
-    ensures tokens { OnOk result (writer.new.tokens ≡ writer.old.tokens ++ member_tokens ((key.now, numeral_or_null length) ∷ [])) }
+    ensures { PrintsMembers result writer.old writer.new ((key.now, numeral_or_null length) ∷ []) }
 {
     match length {
         Some(length) => put_number(writer, key, u64::from(length)),
@@ -72,8 +67,7 @@ pub(crate) fn put_answer(
     key: &str,
     answer: Option<bool>,
 ) -> Result<(), AllocError>
-    ensures before { writer.new.before ≡ writer.old.before }
-    ensures tokens { OnOk result (writer.new.tokens ≡ writer.old.tokens ++ member_tokens ((key.now, boolean_or_null answer) ∷ [])) }
+    ensures { PrintsMembers result writer.old writer.new ((key.now, boolean_or_null answer) ∷ []) }
 {
     match answer {
         Some(answer) => put_boolean(writer, key, answer),
@@ -90,8 +84,7 @@ pub(crate) fn put_type(
     closed: bool,
     locked: bool,
 ) -> Result<(), AllocError>
-    ensures before { writer.new.before ≡ writer.old.before }
-    ensures tokens { OnOk result (writer.new.tokens ≡ writer.old.tokens ++ member_tokens (type_members kind type_byte closed locked)) }
+    ensures { PrintsMembers result writer.old writer.new (type_members kind type_byte closed locked) }
 {
     put_kind(writer, "kind", kind)?;
     put_number(writer, "type", u64::from(type_byte))?;
@@ -106,8 +99,7 @@ pub(crate) fn put_entry(
     first: (u8, u8),
     record_length: Option<u8>,
 ) -> Result<(), AllocError>
-    ensures before { writer.new.before ≡ writer.old.before }
-    ensures tokens { OnOk result (writer.new.tokens ≡ writer.old.tokens ++ member_tokens (entry_members size first record_length)) }
+    ensures { PrintsMembers result writer.old writer.new (entry_members size first record_length) }
 {
     let (track, sector) = first;
     put_number(writer, "size", u64::from(size))?;
@@ -121,8 +113,7 @@ pub(crate) fn put_ways(
     blocks: Option<usize>,
     side: Option<usize>,
 ) -> Result<(), AllocError>
-    ensures before { writer.new.before ≡ writer.old.before }
-    ensures tokens { OnOk result (writer.new.tokens ≡ writer.old.tokens ++ member_tokens (way_members blocks side)) }
+    ensures { PrintsMembers result writer.old writer.new (way_members blocks side) }
 {
     put_count(writer, "blocks", blocks)?;
     put_count(writer, "side", side)
@@ -134,8 +125,7 @@ pub(crate) fn put_content(
     writer: &mut Writer,
     content: Option<Content>,
 ) -> Result<(), AllocError>
-    ensures before { writer.new.before ≡ writer.old.before }
-    ensures tokens { OnOk result (writer.new.tokens ≡ writer.old.tokens ++ member_tokens (content_members content)) }
+    ensures { PrintsMembers result writer.old writer.new (content_members content) }
 {
     match content {
         Some(content) => {
@@ -151,8 +141,7 @@ pub(crate) fn put_content(
 
 /// Prints an array of reasons.
 fn put_flaws(writer: &mut Writer, flaws: &[Flaw]) -> Result<(), AllocError>
-    ensures before { writer.new.before ≡ writer.old.before }
-    ensures tokens { OnOk result (writer.new.tokens ≡ writer.old.tokens ++ json_tokens (array_of (map flaw_value flaws.now))) }
+    ensures { Prints result writer.old writer.new (array_of (map flaw_value flaws.now)) }
 {
     writer.begin_array()?;
     for flaw in flaws {
@@ -163,8 +152,7 @@ fn put_flaws(writer: &mut Writer, flaws: &[Flaw]) -> Result<(), AllocError>
 
 /// Prints an array of numbers.
 fn put_numbers(writer: &mut Writer, numbers: &[u8]) -> Result<(), AllocError>
-    ensures before { writer.new.before ≡ writer.old.before }
-    ensures tokens { OnOk result (writer.new.tokens ≡ writer.old.tokens ++ json_tokens (array_of (map numeral numbers.now))) }
+    ensures { Prints result writer.old writer.new (array_of (map numeral numbers.now)) }
 {
     writer.begin_array()?;
     for number in numbers {
@@ -175,8 +163,7 @@ fn put_numbers(writer: &mut Writer, numbers: &[u8]) -> Result<(), AllocError>
 
 /// Prints why a file is not whole.
 pub(crate) fn put_why(writer: &mut Writer, flaws: &[Flaw]) -> Result<(), AllocError>
-    ensures before { writer.new.before ≡ writer.old.before }
-    ensures tokens { OnOk result (writer.new.tokens ≡ writer.old.tokens ++ member_tokens ((codes "why", array_of (map flaw_value flaws.now)) ∷ [])) }
+    ensures { PrintsMembers result writer.old writer.new ((codes "why", array_of (map flaw_value flaws.now)) ∷ []) }
 {
     writer.key("why")?;
     put_flaws(writer, flaws)
@@ -184,8 +171,7 @@ pub(crate) fn put_why(writer: &mut Writer, flaws: &[Flaw]) -> Result<(), AllocEr
 
 /// Prints the numbers of the conditions that a file breaks.
 pub(crate) fn put_conditions(writer: &mut Writer, numbers: &[u8]) -> Result<(), AllocError>
-    ensures before { writer.new.before ≡ writer.old.before }
-    ensures tokens { OnOk result (writer.new.tokens ≡ writer.old.tokens ++ member_tokens ((codes "conditions", array_of (map numeral numbers.now)) ∷ [])) }
+    ensures { PrintsMembers result writer.old writer.new ((codes "conditions", array_of (map numeral numbers.now)) ∷ []) }
 {
     writer.key("conditions")?;
     put_numbers(writer, numbers)
@@ -194,8 +180,7 @@ pub(crate) fn put_conditions(writer: &mut Writer, numbers: &[u8]) -> Result<(), 
 /// Prints whether the file is whole, why not, the conditions that it breaks, and how many of its
 /// blocks have a read error.
 fn put_state(writer: &mut Writer, row: &FileRow) -> Result<(), AllocError>
-    ensures before { writer.new.before ≡ writer.old.before }
-    ensures tokens { OnOk result (writer.new.tokens ≡ writer.old.tokens ++ member_tokens (state_members row.now)) }
+    ensures { PrintsMembers result writer.old writer.new (state_members row.now) }
 {
     put_answer(writer, "whole", row.whole)?;
     put_why(writer, row.why.as_slice())?;
@@ -210,8 +195,7 @@ pub fn put_file_members(
     writer: &mut Writer,
     row: &FileRow,
 ) -> Result<(), AllocError>
-    ensures before { writer.new.before ≡ writer.old.before }
-    ensures tokens { OnOk result (writer.new.tokens ≡ writer.old.tokens ++ member_tokens (file_members row.now)) }
+    ensures { PrintsMembers result writer.old writer.new (file_members row.now) }
 {
     put_names(scratch, writer, &row.field)?;
     put_type(writer, row.kind, row.type_byte, row.closed, row.locked)?;

@@ -1,6 +1,6 @@
 //! What is printed of a file, also of a deleted one, as JSON.
-ghost use Rattle.std.specs.Prelude.{◌≡◌, ◌++◌, OnOk, IfOk};
-ghost use Rattle.out_json_csv.specs.Values.{line_of, member_tokens};
+ghost use Rattle.std.specs.Prelude.{◌≡◌, ◌++◌, IfOk};
+ghost use Rattle.out_json_csv.specs.Values.{PrintsMembers, line_of};
 ghost use Rattle.cmd_files.specs.FileObject.{file_members};
 ghost use Rattle.cmd_files.specs.DeletedObject.{deleted_members};
 ghost use Rattle.cmd_files.specs.OrphanObject.{orphan_members};
@@ -23,8 +23,7 @@ fn put_place(
     name: &[u8],
     slot: usize,
 ) -> Result<(), AllocError>
-    ensures before { writer.new.before ≡ writer.old.before }
-    ensures tokens { OnOk result (writer.new.tokens ≡ writer.old.tokens ++ member_tokens (place_members name.now slot)) }
+    ensures { PrintsMembers result writer.old writer.new (place_members name.now slot) }
 {
     put_image(scratch, writer, name)?;
     put_number(writer, "slot", slot as u64)
@@ -37,8 +36,7 @@ fn put_placed_file(
     name: &[u8],
     file: &FileRow,
 ) -> Result<(), AllocError>
-    ensures before { writer.new.before ≡ writer.old.before }
-    ensures tokens { OnOk result (writer.new.tokens ≡ writer.old.tokens ++ member_tokens (place_members name.now file.now.slot ++ file_members file.now)) }
+    ensures { PrintsMembers result writer.old writer.new (place_members name.now file.now.slot ++ file_members file.now) }
 {
     put_place(scratch, writer, name, file.slot)?;
     put_file_members(scratch, writer, file)
@@ -51,8 +49,7 @@ fn put_placed_deleted(
     name: &[u8],
     file: &DeletedRow,
 ) -> Result<(), AllocError>
-    ensures before { writer.new.before ≡ writer.old.before }
-    ensures tokens { OnOk result (writer.new.tokens ≡ writer.old.tokens ++ member_tokens (place_members name.now file.now.slot ++ deleted_members file.now)) }
+    ensures { PrintsMembers result writer.old writer.new (place_members name.now file.now.slot ++ deleted_members file.now) }
 {
     put_place(scratch, writer, name, file.slot)?;
     put_deleted_members(scratch, writer, file)
@@ -65,8 +62,7 @@ fn put_placed_orphan(
     name: &[u8],
     chain: &OrphanRow,
 ) -> Result<(), AllocError>
-    ensures before { writer.new.before ≡ writer.old.before }
-    ensures tokens { OnOk result (writer.new.tokens ≡ writer.old.tokens ++ member_tokens (orphan_place name.now ++ orphan_members chain.now)) }
+    ensures { PrintsMembers result writer.old writer.new (orphan_place name.now ++ orphan_members chain.now) }
 {
     put_orphan_place(scratch, writer, name)?;
     put_orphan_members(scratch, writer, chain)
@@ -78,8 +74,7 @@ fn put_orphan_place(
     writer: &mut Writer,
     name: &[u8],
 ) -> Result<(), AllocError>
-    ensures before { writer.new.before ≡ writer.old.before }
-    ensures tokens { OnOk result (writer.new.tokens ≡ writer.old.tokens ++ member_tokens (orphan_place name.now)) }
+    ensures { PrintsMembers result writer.old writer.new (orphan_place name.now) }
 {
     put_image(scratch, writer, name)?;
     put_null(writer, "slot")
@@ -93,8 +88,7 @@ pub(crate) fn put_row_members(
     name: &[u8],
     row: &Row,
 ) -> Result<(), AllocError>
-    ensures before { writer.new.before ≡ writer.old.before }
-    ensures tokens { OnOk result (writer.new.tokens ≡ writer.old.tokens ++ member_tokens (row_members name.now row.now)) }
+    ensures { PrintsMembers result writer.old writer.new (row_members name.now row.now) }
 {
     match row {
         Row::File(file) => put_placed_file(scratch, writer, name, file),
@@ -110,8 +104,7 @@ pub(crate) fn put_leftover_members(
     writer: &mut Writer,
     row: &Row,
 ) -> Result<(), AllocError>
-    ensures before { writer.new.before ≡ writer.old.before }
-    ensures tokens { OnOk result (writer.new.tokens ≡ writer.old.tokens ++ member_tokens (leftover_members leftovers row.now)) }
+    ensures { PrintsMembers result writer.old writer.new (leftover_members leftovers row.now) }
 {
     if leftovers.deleted {
         put_boolean(writer, "deleted", row.is_deleted())?;

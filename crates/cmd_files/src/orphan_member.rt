@@ -1,6 +1,5 @@
 //! An orphan as members of a JSON object.
-ghost use Rattle.std.specs.Prelude.{◌≡◌, ◌++◌, OnOk};
-ghost use Rattle.out_json_csv.specs.Values.{member_tokens};
+ghost use Rattle.out_json_csv.specs.Values.{PrintsMembers};
 ghost use Rattle.cmd_files.specs.OrphanObject.{old_name_members, old_type_members, orphan_entry_members, orphan_state_members, orphan_members};
 
 use crate::file_member::{
@@ -17,8 +16,7 @@ fn put_old_names(
     writer: &mut Writer,
     old: Option<OldSlot>,
 ) -> Result<(), AllocError>
-    ensures before { writer.new.before ≡ writer.old.before }
-    ensures tokens { OnOk result (writer.new.tokens ≡ writer.old.tokens ++ member_tokens (old_name_members old)) }
+    ensures { PrintsMembers result writer.old writer.new (old_name_members old) }
 {
     match old {
         Some(old) => put_names(scratch, writer, &old.field),
@@ -31,8 +29,7 @@ fn put_old_names(
 
 /// Prints the kind, and the type byte with what it says; null if there is no old slot.
 fn put_old_type(writer: &mut Writer, old: Option<OldSlot>) -> Result<(), AllocError>
-    ensures before { writer.new.before ≡ writer.old.before }
-    ensures tokens { OnOk result (writer.new.tokens ≡ writer.old.tokens ++ member_tokens (old_type_members old)) }
+    ensures { PrintsMembers result writer.old writer.new (old_type_members old) }
 {
     match old {
         Some(old) => put_type(
@@ -53,8 +50,7 @@ fn put_old_type(writer: &mut Writer, old: Option<OldSlot>) -> Result<(), AllocEr
 
 /// Prints the shown size, if an old slot has one, the first block, and no length of a record.
 fn put_orphan_entry(writer: &mut Writer, row: &OrphanRow) -> Result<(), AllocError>
-    ensures before { writer.new.before ≡ writer.old.before }
-    ensures tokens { OnOk result (writer.new.tokens ≡ writer.old.tokens ++ member_tokens (orphan_entry_members row.now)) }
+    ensures { PrintsMembers result writer.old writer.new (orphan_entry_members row.now) }
 {
     let size = match row.old {
         Some(old) => Some(usize::from(old.size)),
@@ -68,8 +64,7 @@ fn put_orphan_entry(writer: &mut Writer, row: &OrphanRow) -> Result<(), AllocErr
 /// Prints that it isn't known whether an orphan is whole, and how many of its blocks have a read
 /// error.
 fn put_orphan_state(writer: &mut Writer, row: &OrphanRow) -> Result<(), AllocError>
-    ensures before { writer.new.before ≡ writer.old.before }
-    ensures tokens { OnOk result (writer.new.tokens ≡ writer.old.tokens ++ member_tokens (orphan_state_members row.now)) }
+    ensures { PrintsMembers result writer.old writer.new (orphan_state_members row.now) }
 {
     put_answer(writer, "whole", None)?;
     put_why(writer, &[])?;
@@ -84,8 +79,7 @@ pub(crate) fn put_orphan_members(
     writer: &mut Writer,
     row: &OrphanRow,
 ) -> Result<(), AllocError>
-    ensures before { writer.new.before ≡ writer.old.before }
-    ensures tokens { OnOk result (writer.new.tokens ≡ writer.old.tokens ++ member_tokens (orphan_members row.now)) }
+    ensures { PrintsMembers result writer.old writer.new (orphan_members row.now) }
 {
     put_old_names(scratch, writer, row.old)?;
     put_old_type(writer, row.old)?;

@@ -1,8 +1,7 @@
 //! What is printed of a merge as JSON.
-ghost use Rattle.std.specs.Prelude.{◌≡◌, [], ◌∷◌, ◌++◌, map, option_map, string_bytes, codes, OnOk, IfOk};
+ghost use Rattle.std.specs.Prelude.{◌≡◌, [], ◌∷◌, ◌++◌, map, option_map, string_bytes, codes, IfOk};
 ghost use Rattle.json.specs.Json.{string};
-ghost use Rattle.json.specs.Tree.{json_tokens};
-ghost use Rattle.out_json_csv.specs.Values.{array_of, line_of, member_tokens, numeral_or_null};
+ghost use Rattle.out_json_csv.specs.Values.{Prints, PrintsMembers, array_of, line_of, numeral_or_null};
 ghost use Rattle.cmd_merge.specs.Objects.{outcome_word, name_at, name_or_null, codes_value, choice_members, codes_members, choice_object, choice_line, choice_lines, entry_text, size_members, count_member, count_members, left_members, digest_members, summary_object};
 
 use arrayvec::ArrayString;
@@ -67,8 +66,7 @@ fn put_source(
     writer: &mut Writer,
     name: Option<&String>,
 ) -> Result<(), AllocError>
-    ensures before { writer.new.before ≡ writer.old.before }
-    ensures tokens { OnOk result (writer.new.tokens ≡ writer.old.tokens ++ member_tokens ((codes "from", name_or_null (option_map (λ name. string_bytes name.now) name.entry)) ∷ [])) }
+    ensures { PrintsMembers result writer.old writer.new ((codes "from", name_or_null (option_map (λ name. string_bytes name.now) name.entry)) ∷ []) }
 {
     match name {
         Some(name) => put_host_name(scratch, writer, "from", name.as_bytes()),
@@ -83,8 +81,7 @@ fn put_choice(
     names: &[String],
     choice: &Choice,
 ) -> Result<(), AllocError>
-    ensures before { writer.new.before ≡ writer.old.before }
-    ensures tokens { OnOk result (writer.new.tokens ≡ writer.old.tokens ++ member_tokens (choice_members (map string_bytes names.now) choice.now)) }
+    ensures { PrintsMembers result writer.old writer.new (choice_members (map string_bytes names.now) choice.now) }
 {
     put_pair(writer, "block", choice.block.track(), choice.block.sector())?;
     put_text(writer, "result", outcome_word(choice.outcome))?;
@@ -93,8 +90,7 @@ fn put_choice(
 
 /// Prints a read code, or null.
 fn put_code(writer: &mut Writer, code: Option<u8>) -> Result<(), AllocError>
-    ensures before { writer.new.before ≡ writer.old.before }
-    ensures tokens { OnOk result (writer.new.tokens ≡ writer.old.tokens ++ json_tokens (numeral_or_null code)) }
+    ensures { Prints result writer.old writer.new (numeral_or_null code) }
 {
     match code {
         Some(code) => writer.u64(u64::from(code)),
@@ -104,8 +100,7 @@ fn put_code(writer: &mut Writer, code: Option<u8>) -> Result<(), AllocError>
 
 /// Prints an array of the read codes of a block, one for each dump.
 fn put_codes(writer: &mut Writer, dumps: &[Dump], block: BlockNo) -> Result<(), AllocError>
-    ensures before { writer.new.before ≡ writer.old.before }
-    ensures tokens { OnOk result (writer.new.tokens ≡ writer.old.tokens ++ json_tokens (codes_value dumps.now block)) }
+    ensures { Prints result writer.old writer.new (codes_value dumps.now block) }
 {
     writer.begin_array()?;
     for dump in dumps {
@@ -116,8 +111,7 @@ fn put_codes(writer: &mut Writer, dumps: &[Dump], block: BlockNo) -> Result<(), 
 
 /// Prints the member of the read codes.
 fn put_code_list(writer: &mut Writer, dumps: &[Dump], block: BlockNo) -> Result<(), AllocError>
-    ensures before { writer.new.before ≡ writer.old.before }
-    ensures tokens { OnOk result (writer.new.tokens ≡ writer.old.tokens ++ member_tokens (codes_members dumps.now block)) }
+    ensures { PrintsMembers result writer.old writer.new (codes_members dumps.now block) }
 {
     writer.key("codes")?;
     put_codes(writer, dumps, block)
@@ -194,8 +188,7 @@ pub(crate) fn entry_text(entry: u8) -> ArrayString<ENTRY_LEN>
 /// Prints the name of the file that is made, how many tracks it has, whether it has read codes, and
 /// how many blocks.
 fn put_size(scratch: &mut Vec<u8>, writer: &mut Writer, summary: &Summary) -> Result<(), AllocError>
-    ensures before { writer.new.before ≡ writer.old.before }
-    ensures tokens { OnOk result (writer.new.tokens ≡ writer.old.tokens ++ member_tokens (size_members summary.now.out.now summary.now.tracks summary.now.with_codes summary.now.list.now)) }
+    ensures { PrintsMembers result writer.old writer.new (size_members summary.now.out.now summary.now.tracks summary.now.with_codes summary.now.list.now) }
 {
     put_host_name(scratch, writer, "out", summary.out)?;
     put_number(writer, "tracks", u64::from(summary.tracks))?;
@@ -205,8 +198,7 @@ fn put_size(scratch: &mut Vec<u8>, writer: &mut Writer, summary: &Summary) -> Re
 
 /// Prints how many blocks have an outcome.
 fn put_count(writer: &mut Writer, outcome: Outcome, list: &[Choice]) -> Result<(), AllocError>
-    ensures before { writer.new.before ≡ writer.old.before }
-    ensures tokens { OnOk result (writer.new.tokens ≡ writer.old.tokens ++ member_tokens (count_member outcome list.now ∷ [])) }
+    ensures { PrintsMembers result writer.old writer.new (count_member outcome list.now ∷ []) }
 {
     put_number(
         writer,
@@ -217,8 +209,7 @@ fn put_count(writer: &mut Writer, outcome: Outcome, list: &[Choice]) -> Result<(
 
 /// Prints how many blocks have each outcome other than `Same`.
 fn put_counts(writer: &mut Writer, list: &[Choice]) -> Result<(), AllocError>
-    ensures before { writer.new.before ≡ writer.old.before }
-    ensures tokens { OnOk result (writer.new.tokens ≡ writer.old.tokens ++ member_tokens (count_members list.now)) }
+    ensures { PrintsMembers result writer.old writer.new (count_members list.now) }
 {
     put_count(writer, Outcome::Taken, list)?;
     put_count(writer, Outcome::Lost, list)?;
@@ -229,8 +220,7 @@ fn put_counts(writer: &mut Writer, list: &[Choice]) -> Result<(), AllocError>
 
 /// Prints an array of the tracks of entries.
 fn put_entries(writer: &mut Writer, left: &[u8]) -> Result<(), AllocError>
-    ensures before { writer.new.before ≡ writer.old.before }
-    ensures tokens { OnOk result (writer.new.tokens ≡ writer.old.tokens ++ json_tokens (array_of (map (λ entry. string (entry_text entry)) left.now))) }
+    ensures { Prints result writer.old writer.new (array_of (map (λ entry. string (entry_text entry)) left.now)) }
 {
     writer.begin_array()?;
     for entry in left {
@@ -242,8 +232,7 @@ fn put_entries(writer: &mut Writer, left: &[u8]) -> Result<(), AllocError>
 
 /// Prints the member of the tracks of G64 files that hold what the dump lacks.
 fn put_left(writer: &mut Writer, left: &[u8]) -> Result<(), AllocError>
-    ensures before { writer.new.before ≡ writer.old.before }
-    ensures tokens { OnOk result (writer.new.tokens ≡ writer.old.tokens ++ member_tokens (left_members left.now)) }
+    ensures { PrintsMembers result writer.old writer.new (left_members left.now) }
 {
     writer.key("left")?;
     put_entries(writer, left)
@@ -255,8 +244,7 @@ fn put_digest(
     writer: &mut Writer,
     digest: Option<&[u8; 32]>,
 ) -> Result<(), AllocError>
-    ensures before { writer.new.before ≡ writer.old.before }
-    ensures tokens { OnOk result (writer.new.tokens ≡ writer.old.tokens ++ member_tokens (digest_members (option_map (λ d. d.now) digest.entry))) }
+    ensures { PrintsMembers result writer.old writer.new (digest_members (option_map (λ d. d.now) digest.entry)) }
 {
     match digest {
         Some(digest) => put_hexadecimal(scratch, writer, "sha256", digest),
@@ -270,8 +258,7 @@ fn put_summary(
     writer: &mut Writer,
     summary: &Summary,
 ) -> Result<(), AllocError>
-    ensures before { writer.new.before ≡ writer.old.before }
-    ensures tokens { OnOk result (writer.new.tokens ≡ writer.old.tokens ++ member_tokens (size_members summary.now.out.now summary.now.tracks summary.now.with_codes summary.now.list.now ++ (count_members summary.now.list.now ++ (left_members summary.now.left.now ++ digest_members (option_map (λ d. d.now) summary.now.digest))))) }
+    ensures { PrintsMembers result writer.old writer.new (size_members summary.now.out.now summary.now.tracks summary.now.with_codes summary.now.list.now ++ (count_members summary.now.list.now ++ (left_members summary.now.left.now ++ digest_members (option_map (λ d. d.now) summary.now.digest)))) }
 {
     put_size(scratch, writer, summary)?;
     put_counts(writer, summary.list)?;

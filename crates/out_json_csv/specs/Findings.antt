@@ -52,11 +52,11 @@ fault_members image (Shared block) = block_members image block
 fault_members image (MarkedFree block) = block_members image block
 
 -- a fault
-abbrev pub fault_object : Disk → Fault → Json
+unfoldable pub fault_object : Disk → Fault → Json
 fault_object image fault = object_of ((codes "condition", numeral (number fault)) ∷ fault_members image fault)
 
 -- a read error, with the owners of its block, if it has any
-abbrev pub read_error_object : Disk → ReadError → Json
+unfoldable pub read_error_object : Disk → ReadError → Json
 read_error_object image error =
     object_of
     ((codes "block", string (block_text error.block)) ∷ (codes "code", numeral error.code) ∷ (codes "status", numeral_or_null (drive_status error.code))

@@ -1,8 +1,9 @@
 -- JSON values from lists: objects with their members in order, and arrays.
-use Rattle.std.specs.Prelude.{ℕ, List, [], ◌∷◌, ◌++◌, Option, decimal}
+use Rattle.std.specs.Prelude.{◌≡◌, ℕ, List, [], ◌∷◌, ◌++◌, Option, Result, OnOk, decimal}
 use Rattle.std.specs.List.{flat_map}
 use Rattle.std.specs.Option.{option_map_or}
 use Rattle.json.specs.Token.{Token, key}
+use Rattle.json.specs.Written.{Written}
 use Rattle.json.specs.Json.{Json, null, number, array, object, Items, no_items, item, Members, no_members, member}
 use Rattle.json.specs.Print.{print}
 use Rattle.json.specs.Tree.{json_tokens}
@@ -50,3 +51,14 @@ line_of value = printed_line (json_tokens value)
 -- the tokens of members
 abbrev pub member_tokens : List Field → List Token
 member_tokens fields = flat_map (λ (field : Field). key field.0 ∷ json_tokens field.1) fields
+
+-- a call with this result prints a value: what was written before stays, and if the call succeeds,
+-- the tokens of the value come after it
+pub record Prints {E : Type 0} (result : Result (Unit {0}) E) (old new : Written) (value : Json) : Type 0 where
+  pub before : new.before ≡ old.before
+  pub tokens : OnOk result (new.tokens ≡ old.tokens ++ json_tokens value)
+
+-- a call with this result prints members of an object, in the same way
+pub record PrintsMembers {E : Type 0} (result : Result (Unit {0}) E) (old new : Written) (fields : List Field) : Type 0 where
+  pub before : new.before ≡ old.before
+  pub tokens : OnOk result (new.tokens ≡ old.tokens ++ member_tokens fields)

@@ -1,15 +1,13 @@
 //! What is printed of a dump as CSV.
 ghost use Rattle.std.specs.Prelude.{◌≡◌, [], ◌++◌, option_map, OnOk, IfOk};
-ghost use Rattle.csv.specs.Records.{fields_of, partial_of};
 ghost use Rattle.hex.specs.Hex.{encode_lower};
 ghost use Rattle.out_json_csv.specs.Rows.{field_where};
 ghost use Rattle.out_json_csv.specs.Checks.{dump_fields, label_fields, count_fields, state_fields, check_fields, check_row};
 
+use crate::csv_row::CsvRow;
 use crate::doubt::push_doubts;
-use crate::field::{push_boolean, push_hexadecimal, push_host_name, push_name, push_number};
 use crate::row::end_row;
 use crate::scratch::Scratch;
-use csv::ByteRecord;
 use d64_files::{disk_dos, disk_id, disk_name};
 use d64_image::Image;
 use d64_map::blocks_free;
@@ -19,54 +17,46 @@ use std::alloc::AllocError;
 /// Appends the file, the number of tracks, and whether there are read codes, to a row.
 fn push_dump(
     scratch: &mut Vec<u8>,
-    row: &mut ByteRecord,
+    row: &mut CsvRow,
     inspection: &Inspection,
     name: &[u8],
 ) -> Result<(), AllocError>
-    requires { partial_of row.old ≡ [] }
-    ensures fields { OnOk result (fields_of row.new ≡ fields_of row.old ++ dump_fields inspection.now name.now) }
-    ensures whole { OnOk result (partial_of row.new ≡ []) }
+    ensures { OnOk result (row.new ≡ row.old ++ dump_fields inspection.now name.now) }
 {
-    push_host_name(scratch, row, name)?;
-    push_number(row, u64::from(inspection.image().tracks()))?;
-    push_boolean(row, inspection.codes().is_some())
+    row.push_host_name(scratch, name)?;
+    row.push_number(u64::from(inspection.image().tracks()))?;
+    row.push_boolean(inspection.codes().is_some())
 }
 
 /// Appends the disk's name, its id and its DOS version to a row.
-fn push_label(scratch: &mut Vec<u8>, row: &mut ByteRecord, image: &Image) -> Result<(), AllocError>
-    requires { partial_of row.old ≡ [] }
-    ensures fields { OnOk result (fields_of row.new ≡ fields_of row.old ++ label_fields image.now) }
-    ensures whole { OnOk result (partial_of row.new ≡ []) }
+fn push_label(scratch: &mut Vec<u8>, row: &mut CsvRow, image: &Image) -> Result<(), AllocError>
+    ensures { OnOk result (row.new ≡ row.old ++ label_fields image.now) }
 {
-    push_name(scratch, row, disk_name(image))?;
-    push_name(scratch, row, disk_id(image))?;
-    push_name(scratch, row, disk_dos(image))
+    row.push_name(scratch, disk_name(image))?;
+    row.push_name(scratch, disk_id(image))?;
+    row.push_name(scratch, disk_dos(image))
 }
 
 /// Appends how many slots are used, how many files are whole, how many blocks are free, and how
 /// many are neither free nor owned, to a row.
-fn push_counts(row: &mut ByteRecord, inspection: &Inspection) -> Result<(), AllocError>
-    requires { partial_of row.old ≡ [] }
-    ensures fields { OnOk result (fields_of row.new ≡ fields_of row.old ++ count_fields inspection.now) }
-    ensures whole { OnOk result (partial_of row.new ≡ []) }
+fn push_counts(row: &mut CsvRow, inspection: &Inspection) -> Result<(), AllocError>
+    ensures { OnOk result (row.new ≡ row.old ++ count_fields inspection.now) }
 {
-    push_number(row, inspection.entries() as u64)?;
-    push_number(row, inspection.whole() as u64)?;
-    push_number(row, u64::from(blocks_free(inspection.image())))?;
-    push_number(row, inspection.unowned() as u64)
+    row.push_number(inspection.entries() as u64)?;
+    row.push_number(inspection.whole() as u64)?;
+    row.push_number(u64::from(blocks_free(inspection.image())))?;
+    row.push_number(inspection.unowned() as u64)
 }
 
 /// Appends whether the image is sound, whether something is amiss, and how many faults and read
 /// errors there are, to a row.
-fn push_state(row: &mut ByteRecord, inspection: &Inspection) -> Result<(), AllocError>
-    requires { partial_of row.old ≡ [] }
-    ensures fields { OnOk result (fields_of row.new ≡ fields_of row.old ++ state_fields inspection.now) }
-    ensures whole { OnOk result (partial_of row.new ≡ []) }
+fn push_state(row: &mut CsvRow, inspection: &Inspection) -> Result<(), AllocError>
+    ensures { OnOk result (row.new ≡ row.old ++ state_fields inspection.now) }
 {
-    push_boolean(row, inspection.is_sound())?;
-    push_boolean(row, inspection.is_amiss())?;
-    push_number(row, inspection.faults().len() as u64)?;
-    push_number(row, inspection.read_errors().len() as u64)
+    row.push_boolean(inspection.is_sound())?;
+    row.push_boolean(inspection.is_amiss())?;
+    row.push_number(inspection.faults().len() as u64)?;
+    row.push_number(inspection.read_errors().len() as u64)
 }
 
 /// Makes the row of a dump, as far as the digest.
@@ -75,8 +65,7 @@ fn put_dump_row(
     name: &[u8],
     inspection: &Inspection,
 ) -> Result<(), AllocError>
-    ensures fields { OnOk result (fields_of scratch.new.row ≡ check_fields inspection.now name.now) }
-    ensures whole { OnOk result (partial_of scratch.new.row ≡ []) }
+    ensures { OnOk result (scratch.new.row ≡ check_fields inspection.now name.now) }
 {
     scratch.row.clear();
     push_dump(&mut scratch.text, &mut scratch.row, inspection, name)?;
@@ -88,15 +77,13 @@ fn put_dump_row(
 /// Appends a digest in hexadecimal digits to a row, if there is one.
 fn push_digest(
     scratch: &mut Vec<u8>,
-    row: &mut ByteRecord,
+    row: &mut CsvRow,
     digest: Option<&[u8; 32]>,
 ) -> Result<(), AllocError>
-    requires { partial_of row.old ≡ [] }
-    ensures fields { OnOk result (fields_of row.new ≡ fields_of row.old ++ field_where (option_map encode_lower (option_map (λ d. d.now) digest.entry))) }
-    ensures whole { OnOk result (partial_of row.new ≡ []) }
+    ensures { OnOk result (row.new ≡ row.old ++ field_where (option_map encode_lower (option_map (λ d. d.now) digest.entry))) }
 {
     match digest {
-        Some(digest) => push_hexadecimal(scratch, row, digest),
+        Some(digest) => row.push_hexadecimal(scratch, digest),
         None => Ok(()),
     }
 }

@@ -1,13 +1,10 @@
 //! What makes an image doubtful, as JSON and as a field of CSV.
 ghost use Rattle.std.specs.Prelude.{◌≡◌, [], ◌∷◌, ◌++◌, map, codes, OnOk};
 ghost use Rattle.std.specs.List.{flat_map};
-ghost use Rattle.csv.specs.Records.{fields_of, partial_of};
-ghost use Rattle.json.specs.Tree.{json_tokens};
-ghost use Rattle.out_json_csv.specs.Values.{array_of, member_tokens};
+ghost use Rattle.out_json_csv.specs.Values.{Prints, PrintsMembers, array_of};
 ghost use Rattle.out_json_csv.specs.Doubts.{doubt_word as doubt_word_of, doubt_value, next_word, doubts_text};
 
-use crate::field::push_field;
-use csv::ByteRecord;
+use crate::csv_row::CsvRow;
 use d64_survey::Doubt;
 use json::Writer;
 use std::alloc::AllocError;
@@ -26,8 +23,7 @@ fn doubt_word(doubt: Doubt) -> &'static str
 
 /// Prints an array of doubts.
 fn put_doubt_list(writer: &mut Writer, doubts: &[Doubt]) -> Result<(), AllocError>
-    ensures before { writer.new.before ≡ writer.old.before }
-    ensures tokens { OnOk result (writer.new.tokens ≡ writer.old.tokens ++ json_tokens (array_of (map doubt_value doubts.now))) }
+    ensures { Prints result writer.old writer.new (array_of (map doubt_value doubts.now)) }
 {
     writer.begin_array()?;
     for doubt in doubts {
@@ -38,8 +34,7 @@ fn put_doubt_list(writer: &mut Writer, doubts: &[Doubt]) -> Result<(), AllocErro
 
 /// Prints what makes an image doubtful.
 pub(crate) fn put_doubts(writer: &mut Writer, doubts: &[Doubt]) -> Result<(), AllocError>
-    ensures before { writer.new.before ≡ writer.old.before }
-    ensures tokens { OnOk result (writer.new.tokens ≡ writer.old.tokens ++ member_tokens ((codes "doubts", array_of (map doubt_value doubts.now)) ∷ [])) }
+    ensures { PrintsMembers result writer.old writer.new ((codes "doubts", array_of (map doubt_value doubts.now)) ∷ []) }
 {
     writer.key("doubts")?;
     put_doubt_list(writer, doubts)
@@ -74,13 +69,11 @@ fn spell_doubts(text: &mut Vec<u8>, doubts: &[Doubt]) -> Result<(), AllocError>
 /// Appends what makes an image doubtful to a row.
 pub(crate) fn push_doubts(
     scratch: &mut Vec<u8>,
-    row: &mut ByteRecord,
+    row: &mut CsvRow,
     doubts: &[Doubt],
 ) -> Result<(), AllocError>
-    requires { partial_of row.old ≡ [] }
-    ensures fields { OnOk result (fields_of row.new ≡ fields_of row.old ++ doubts_text doubts.now ∷ []) }
-    ensures whole { OnOk result (partial_of row.new ≡ []) }
+    ensures { OnOk result (row.new ≡ row.old ++ doubts_text doubts.now ∷ []) }
 {
     spell_doubts(scratch, doubts)?;
-    push_field(row, scratch.as_slice())
+    row.push_field(scratch.as_slice())
 }

@@ -1,12 +1,11 @@
 //! Faults and read errors as JSON.
-ghost use Rattle.std.specs.Prelude.{◌≡◌, [], ◌∷◌, ◌++◌, map, OnOk};
+ghost use Rattle.std.specs.Prelude.{◌≡◌, [], ◌∷◌, map};
 ghost use Rattle.json.specs.Json.{string};
-ghost use Rattle.json.specs.Tree.{json_tokens};
-ghost use Rattle.out_json_csv.specs.Values.{array_of, member_tokens, numeral_or_null};
+ghost use Rattle.out_json_csv.specs.Values.{Prints, PrintsMembers, array_of, numeral_or_null};
 ghost use Rattle.out_json_csv.specs.Pairs.{block_text};
 ghost use Rattle.out_json_csv.specs.Findings.{last_value, end_word as end_word_of, end_value, end_members, block_members, fault_members, fault_object, read_error_object};
 
-use crate::member::{put_number, put_pair, put_text};
+use crate::member::{put_null, put_number, put_pair, put_text};
 use crate::owner::{part_word, put_owners, put_slot};
 use d64_image::BlockNo;
 use d64_survey::{Fault, LastBlock, ReadError, Survey, WayEnd, drive_status};
@@ -15,22 +14,17 @@ use std::alloc::AllocError;
 
 /// Prints a member whose value is the pair of a block.
 fn put_block(writer: &mut Writer, key: &str, block: BlockNo) -> Result<(), AllocError>
-    ensures before { writer.new.before ≡ writer.old.before }
-    ensures tokens { OnOk result (writer.new.tokens ≡ writer.old.tokens ++ member_tokens ((key.now, string (block_text block)) ∷ [])) }
+    ensures { PrintsMembers result writer.old writer.new ((key.now, string (block_text block)) ∷ []) }
 {
     put_pair(writer, key, block.track(), block.sector())
 }
 
 /// Prints where a chain ends: at its last block, or null.
 fn put_last(writer: &mut Writer, key: &str, at: LastBlock) -> Result<(), AllocError>
-    ensures before { writer.new.before ≡ writer.old.before }
-    ensures tokens { OnOk result (writer.new.tokens ≡ writer.old.tokens ++ member_tokens ((key.now, last_value at) ∷ [])) }
+    ensures { PrintsMembers result writer.old writer.new ((key.now, last_value at) ∷ []) }
 {
     match at {
-        LastBlock::Missing => {
-            writer.key(key)?;
-            writer.null()
-        }
+        LastBlock::Missing => put_null(writer, key),
         LastBlock::Block(block) => put_block(writer, key, block),
     }
 }
@@ -48,14 +42,10 @@ fn end_word(end: WayEnd) -> &'static str
 
 /// Prints the pair at which a chain ends, or null.
 fn put_end(writer: &mut Writer, key: &str, end: WayEnd) -> Result<(), AllocError>
-    ensures before { writer.new.before ≡ writer.old.before }
-    ensures tokens { OnOk result (writer.new.tokens ≡ writer.old.tokens ++ member_tokens ((key.now, end_value end) ∷ [])) }
+    ensures { PrintsMembers result writer.old writer.new ((key.now, end_value end) ∷ []) }
 {
     match end {
-        WayEnd::End => {
-            writer.key(key)?;
-            writer.null()
-        }
+        WayEnd::End => put_null(writer, key),
         WayEnd::Off(track, sector) | WayEnd::Loop(track, sector) => put_pair(
             writer, key, track, sector,
         ),
@@ -65,8 +55,7 @@ fn put_end(writer: &mut Writer, key: &str, end: WayEnd) -> Result<(), AllocError
 /// Prints the members of the end of a chain: its last block, the word for its end, and the pair
 /// there.
 fn put_way(writer: &mut Writer, at: LastBlock, end: WayEnd) -> Result<(), AllocError>
-    ensures before { writer.new.before ≡ writer.old.before }
-    ensures tokens { OnOk result (writer.new.tokens ≡ writer.old.tokens ++ member_tokens (end_members at end)) }
+    ensures { PrintsMembers result writer.old writer.new (end_members at end) }
 {
     put_last(writer, "at", at)?;
     put_text(writer, "end", end_word(end))?;
@@ -80,8 +69,7 @@ fn put_owned(
     survey: &Survey,
     block: BlockNo,
 ) -> Result<(), AllocError>
-    ensures before { writer.new.before ≡ writer.old.before }
-    ensures tokens { OnOk result (writer.new.tokens ≡ writer.old.tokens ++ member_tokens (block_members survey.now block)) }
+    ensures { PrintsMembers result writer.old writer.new (block_members survey.now block) }
 {
     put_block(writer, "block", block)?;
     put_owners(scratch, writer, survey, block)
@@ -94,8 +82,7 @@ fn put_fault_members(
     survey: &Survey,
     fault: &Fault,
 ) -> Result<(), AllocError>
-    ensures before { writer.new.before ≡ writer.old.before }
-    ensures tokens { OnOk result (writer.new.tokens ≡ writer.old.tokens ++ member_tokens (fault_members survey.now fault.now)) }
+    ensures { PrintsMembers result writer.old writer.new (fault_members survey.now fault.now) }
 {
     match fault {
         Fault::WrongCount(track, count, marked) => {
@@ -126,8 +113,7 @@ fn put_fault(
     survey: &Survey,
     fault: &Fault,
 ) -> Result<(), AllocError>
-    ensures before { writer.new.before ≡ writer.old.before }
-    ensures tokens { OnOk result (writer.new.tokens ≡ writer.old.tokens ++ json_tokens (fault_object survey.now fault.now)) }
+    ensures { Prints result writer.old writer.new (fault_object survey.now fault.now) }
 {
     writer.begin_object()?;
     put_number(writer, "condition", u64::from(fault.number()))?;
@@ -142,8 +128,7 @@ pub(crate) fn put_faults(
     survey: &Survey,
     faults: &[Fault],
 ) -> Result<(), AllocError>
-    ensures before { writer.new.before ≡ writer.old.before }
-    ensures tokens { OnOk result (writer.new.tokens ≡ writer.old.tokens ++ json_tokens (array_of (map (fault_object survey.now) faults.now))) }
+    ensures { Prints result writer.old writer.new (array_of (map (fault_object survey.now) faults.now)) }
 {
     writer.begin_array()?;
     for fault in faults {
@@ -154,15 +139,11 @@ pub(crate) fn put_faults(
 
 /// Prints the drive's status for a read code, or null.
 fn put_status(writer: &mut Writer, key: &str, status: Option<u8>) -> Result<(), AllocError>
-    ensures before { writer.new.before ≡ writer.old.before }
-    ensures tokens { OnOk result (writer.new.tokens ≡ writer.old.tokens ++ member_tokens ((key.now, numeral_or_null status) ∷ [])) }
+    ensures { PrintsMembers result writer.old writer.new ((key.now, numeral_or_null status) ∷ []) }
 {
     match status {
         Some(status) => put_number(writer, key, u64::from(status)),
-        None => {
-            writer.key(key)?;
-            writer.null()
-        }
+        None => put_null(writer, key),
     }
 }
 
@@ -173,8 +154,7 @@ fn put_read_error(
     survey: &Survey,
     error: &ReadError,
 ) -> Result<(), AllocError>
-    ensures before { writer.new.before ≡ writer.old.before }
-    ensures tokens { OnOk result (writer.new.tokens ≡ writer.old.tokens ++ json_tokens (read_error_object survey.now error.now)) }
+    ensures { Prints result writer.old writer.new (read_error_object survey.now error.now) }
 {
     writer.begin_object()?;
     put_block(writer, "block", error.block)?;
@@ -191,8 +171,7 @@ pub(crate) fn put_read_errors(
     survey: &Survey,
     errors: &[ReadError],
 ) -> Result<(), AllocError>
-    ensures before { writer.new.before ≡ writer.old.before }
-    ensures tokens { OnOk result (writer.new.tokens ≡ writer.old.tokens ++ json_tokens (array_of (map (read_error_object survey.now) errors.now))) }
+    ensures { Prints result writer.old writer.new (array_of (map (read_error_object survey.now) errors.now)) }
 {
     writer.begin_array()?;
     for error in errors {

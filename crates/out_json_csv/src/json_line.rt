@@ -1,6 +1,6 @@
 //! What is printed of a dump as JSON.
-ghost use Rattle.std.specs.Prelude.{◌≡◌, [], ◌∷◌, ◌++◌, option_map, OnOk, IfOk};
-ghost use Rattle.out_json_csv.specs.Values.{line_of, member_tokens};
+ghost use Rattle.std.specs.Prelude.{◌≡◌, [], ◌∷◌, ◌++◌, option_map, IfOk};
+ghost use Rattle.out_json_csv.specs.Values.{PrintsMembers, line_of};
 ghost use Rattle.out_json_csv.specs.Checks.{dump_members, label_members, count_members, state_members, fault_list, error_list, finding_members, digest_members, check_object};
 
 use crate::doubt::put_doubts;
@@ -23,8 +23,7 @@ fn put_dump(
     inspection: &Inspection,
     name: &[u8],
 ) -> Result<(), AllocError>
-    ensures before { writer.new.before ≡ writer.old.before }
-    ensures tokens { OnOk result (writer.new.tokens ≡ writer.old.tokens ++ member_tokens (dump_members inspection.now name.now)) }
+    ensures { PrintsMembers result writer.old writer.new (dump_members inspection.now name.now) }
 {
     put_image(scratch, writer, name)?;
     put_number(writer, "tracks", u64::from(inspection.image().tracks()))?;
@@ -33,8 +32,7 @@ fn put_dump(
 
 /// Prints the disk's name, its id and its DOS version.
 fn put_label(scratch: &mut Vec<u8>, writer: &mut Writer, image: &Image) -> Result<(), AllocError>
-    ensures before { writer.new.before ≡ writer.old.before }
-    ensures tokens { OnOk result (writer.new.tokens ≡ writer.old.tokens ++ member_tokens (label_members image.now)) }
+    ensures { PrintsMembers result writer.old writer.new (label_members image.now) }
 {
     put_name(scratch, writer, "name", disk_name(image))?;
     put_name(scratch, writer, "id", disk_id(image))?;
@@ -44,8 +42,7 @@ fn put_label(scratch: &mut Vec<u8>, writer: &mut Writer, image: &Image) -> Resul
 /// Prints how many slots are used, how many files are whole, how many blocks are free, and how many
 /// are neither free nor owned.
 fn put_counts(writer: &mut Writer, inspection: &Inspection) -> Result<(), AllocError>
-    ensures before { writer.new.before ≡ writer.old.before }
-    ensures tokens { OnOk result (writer.new.tokens ≡ writer.old.tokens ++ member_tokens (count_members inspection.now)) }
+    ensures { PrintsMembers result writer.old writer.new (count_members inspection.now) }
 {
     put_number(writer, "entries", inspection.entries() as u64)?;
     put_number(writer, "whole", inspection.whole() as u64)?;
@@ -55,8 +52,7 @@ fn put_counts(writer: &mut Writer, inspection: &Inspection) -> Result<(), AllocE
 
 /// Prints whether the image is sound, and whether something is amiss.
 fn put_state(writer: &mut Writer, inspection: &Inspection) -> Result<(), AllocError>
-    ensures before { writer.new.before ≡ writer.old.before }
-    ensures tokens { OnOk result (writer.new.tokens ≡ writer.old.tokens ++ member_tokens (state_members inspection.now)) }
+    ensures { PrintsMembers result writer.old writer.new (state_members inspection.now) }
 {
     put_boolean(writer, "sound", inspection.is_sound())?;
     put_boolean(writer, "amiss", inspection.is_amiss())
@@ -68,8 +64,7 @@ fn put_fault_list(
     writer: &mut Writer,
     inspection: &Inspection,
 ) -> Result<(), AllocError>
-    ensures before { writer.new.before ≡ writer.old.before }
-    ensures tokens { OnOk result (writer.new.tokens ≡ writer.old.tokens ++ member_tokens (fault_list inspection.now ∷ [])) }
+    ensures { PrintsMembers result writer.old writer.new (fault_list inspection.now ∷ []) }
 {
     writer.key("faults")?;
     put_faults(scratch, writer, inspection.survey(), inspection.faults())
@@ -81,8 +76,7 @@ fn put_error_list(
     writer: &mut Writer,
     inspection: &Inspection,
 ) -> Result<(), AllocError>
-    ensures before { writer.new.before ≡ writer.old.before }
-    ensures tokens { OnOk result (writer.new.tokens ≡ writer.old.tokens ++ member_tokens (error_list inspection.now ∷ [])) }
+    ensures { PrintsMembers result writer.old writer.new (error_list inspection.now ∷ []) }
 {
     writer.key("read_errors")?;
     put_read_errors(
@@ -99,8 +93,7 @@ fn put_findings(
     writer: &mut Writer,
     inspection: &Inspection,
 ) -> Result<(), AllocError>
-    ensures before { writer.new.before ≡ writer.old.before }
-    ensures tokens { OnOk result (writer.new.tokens ≡ writer.old.tokens ++ member_tokens (finding_members inspection.now)) }
+    ensures { PrintsMembers result writer.old writer.new (finding_members inspection.now) }
 {
     put_fault_list(scratch, writer, inspection)?;
     put_error_list(scratch, writer, inspection)
@@ -112,8 +105,7 @@ fn put_digest(
     writer: &mut Writer,
     digest: Option<&[u8; 32]>,
 ) -> Result<(), AllocError>
-    ensures before { writer.new.before ≡ writer.old.before }
-    ensures tokens { OnOk result (writer.new.tokens ≡ writer.old.tokens ++ member_tokens (digest_members (option_map (λ d. d.now) digest.entry))) }
+    ensures { PrintsMembers result writer.old writer.new (digest_members (option_map (λ d. d.now) digest.entry)) }
 {
     match digest {
         Some(digest) => put_hexadecimal(scratch, writer, "sha256", digest),

@@ -3,6 +3,7 @@
 #![tactic(auto)]
 
 mod csv_line;
+mod csv_row;
 mod doubt;
 mod field;
 mod finding;
@@ -17,10 +18,7 @@ mod scratch;
 mod unanswered;
 
 pub use csv_line::check_csv;
-pub use field::{
-    push_boolean, push_field, push_fields, push_hexadecimal, push_host_name, push_name,
-    push_number, push_pair,
-};
+pub use csv_row::CsvRow;
 pub use json_line::check_json;
 pub use member::{put_boolean, put_hexadecimal, put_null, put_number, put_pair, put_text};
 pub use name::put_name;

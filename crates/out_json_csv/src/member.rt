@@ -1,8 +1,8 @@
 //! Members of a JSON object, one at a time.
-ghost use Rattle.std.specs.Prelude.{◌≡◌, [], ◌∷◌, ◌++◌, OnOk};
+ghost use Rattle.std.specs.Prelude.{[], ◌∷◌};
 ghost use Rattle.json.specs.Json.{boolean, null, string};
 ghost use Rattle.hex.specs.Hex.{encode_lower};
-ghost use Rattle.out_json_csv.specs.Values.{numeral, member_tokens};
+ghost use Rattle.out_json_csv.specs.Values.{PrintsMembers, numeral};
 ghost use Rattle.out_json_csv.specs.Pairs.{pair_text};
 
 use crate::hexadecimal::{digits_are_ascii, spell_hexadecimal};
@@ -13,8 +13,7 @@ use std::str;
 
 /// Prints a member whose value is a number.
 pub fn put_number(writer: &mut Writer, key: &str, number: u64) -> Result<(), AllocError>
-    ensures before { writer.new.before ≡ writer.old.before }
-    ensures tokens { OnOk result (writer.new.tokens ≡ writer.old.tokens ++ member_tokens ((key.now, numeral number) ∷ [])) }
+    ensures { PrintsMembers result writer.old writer.new ((key.now, numeral number) ∷ []) }
 {
     writer.key(key)?;
     writer.u64(number)
@@ -22,8 +21,7 @@ pub fn put_number(writer: &mut Writer, key: &str, number: u64) -> Result<(), All
 
 /// Prints a member whose value is true or false.
 pub fn put_boolean(writer: &mut Writer, key: &str, value: bool) -> Result<(), AllocError>
-    ensures before { writer.new.before ≡ writer.old.before }
-    ensures tokens { OnOk result (writer.new.tokens ≡ writer.old.tokens ++ member_tokens ((key.now, boolean value) ∷ [])) }
+    ensures { PrintsMembers result writer.old writer.new ((key.now, boolean value) ∷ []) }
 {
     writer.key(key)?;
     writer.boolean(value)
@@ -31,8 +29,7 @@ pub fn put_boolean(writer: &mut Writer, key: &str, value: bool) -> Result<(), Al
 
 /// Prints a member whose value is a text.
 pub fn put_text(writer: &mut Writer, key: &str, text: &str) -> Result<(), AllocError>
-    ensures before { writer.new.before ≡ writer.old.before }
-    ensures tokens { OnOk result (writer.new.tokens ≡ writer.old.tokens ++ member_tokens ((key.now, string text.now) ∷ [])) }
+    ensures { PrintsMembers result writer.old writer.new ((key.now, string text.now) ∷ []) }
 {
     writer.key(key)?;
     writer.string(text)
@@ -40,8 +37,7 @@ pub fn put_text(writer: &mut Writer, key: &str, text: &str) -> Result<(), AllocE
 
 /// Prints a member whose value is null.
 pub fn put_null(writer: &mut Writer, key: &str) -> Result<(), AllocError>
-    ensures before { writer.new.before ≡ writer.old.before }
-    ensures tokens { OnOk result (writer.new.tokens ≡ writer.old.tokens ++ member_tokens ((key.now, null) ∷ [])) }
+    ensures { PrintsMembers result writer.old writer.new ((key.now, null) ∷ []) }
 {
     writer.key(key)?;
     writer.null()
@@ -54,8 +50,7 @@ pub fn put_hexadecimal(
     key: &str,
     bytes: &[u8],
 ) -> Result<(), AllocError>
-    ensures before { writer.new.before ≡ writer.old.before }
-    ensures tokens { OnOk result (writer.new.tokens ≡ writer.old.tokens ++ member_tokens ((key.now, string (encode_lower bytes.now)) ∷ [])) }
+    ensures { PrintsMembers result writer.old writer.new ((key.now, string (encode_lower bytes.now)) ∷ []) }
 {
     spell_hexadecimal(scratch, bytes)?;
     digits_are_ascii(bytes);
@@ -64,8 +59,7 @@ pub fn put_hexadecimal(
 
 /// Prints a member whose value is a pair of track and sector.
 pub fn put_pair(writer: &mut Writer, key: &str, track: u8, sector: u8) -> Result<(), AllocError>
-    ensures before { writer.new.before ≡ writer.old.before }
-    ensures tokens { OnOk result (writer.new.tokens ≡ writer.old.tokens ++ member_tokens ((key.now, string (pair_text (track, sector))) ∷ [])) }
+    ensures { PrintsMembers result writer.old writer.new ((key.now, string (pair_text (track, sector))) ∷ []) }
 {
     let text = pair_text(track, sector);
     put_text(writer, key, text.as_str())

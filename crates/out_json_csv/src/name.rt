@@ -1,7 +1,7 @@
 //! The names on a disk, in text form.
-ghost use Rattle.std.specs.Prelude.{◌≡◌, [], ◌∷◌, ◌++◌, All, ◌<◌, OnOk};
+ghost use Rattle.std.specs.Prelude.{◌≡◌, [], ◌∷◌, All, ◌<◌, OnOk};
 ghost use Rattle.petscii.specs.Spelling.{spelling};
-ghost use Rattle.out_json_csv.specs.Values.{member_tokens};
+ghost use Rattle.out_json_csv.specs.Values.{PrintsMembers};
 ghost use Rattle.out_json_csv.specs.Names.{name_value};
 
 use crate::member::put_text;
@@ -30,8 +30,7 @@ pub fn put_name(
     key: &str,
     name: &[u8],
 ) -> Result<(), AllocError>
-    ensures before { writer.new.before ≡ writer.old.before }
-    ensures tokens { OnOk result (writer.new.tokens ≡ writer.old.tokens ++ member_tokens ((key.now, name_value name.now) ∷ [])) }
+    ensures { PrintsMembers result writer.old writer.new ((key.now, name_value name.now) ∷ []) }
 {
     spell(scratch, name)?;
     spelling_is_ascii(name);

@@ -1,8 +1,7 @@
 //! The owners of a block as JSON.
-ghost use Rattle.std.specs.Prelude.{◌≡◌, ◌++◌, map, OnOk};
-ghost use Rattle.json.specs.Tree.{json_tokens};
+ghost use Rattle.std.specs.Prelude.{◌≡◌, map};
 ghost use Rattle.d64_survey.specs.Owners.{owners_of};
-ghost use Rattle.out_json_csv.specs.Values.{array_of, member_tokens};
+ghost use Rattle.out_json_csv.specs.Values.{Prints, PrintsMembers, array_of};
 ghost use Rattle.out_json_csv.specs.Owners.{part_word as part_word_of, owner_word as owner_word_of, slot_members, owner_object, more_than_eight, owner_members};
 
 use crate::member::{put_number, put_text};
@@ -41,8 +40,7 @@ pub(crate) fn put_slot(
     survey: &Survey,
     slot: SlotNo,
 ) -> Result<(), AllocError>
-    ensures before { writer.new.before ≡ writer.old.before }
-    ensures tokens { OnOk result (writer.new.tokens ≡ writer.old.tokens ++ member_tokens (slot_members survey.now slot)) }
+    ensures { PrintsMembers result writer.old writer.new (slot_members survey.now slot) }
 {
     put_number(writer, "slot", slot.place() as u64)?;
     put_name(scratch, writer, "name", survey.slot_name(slot))
@@ -55,8 +53,7 @@ fn put_owner(
     survey: &Survey,
     owner: &Owner,
 ) -> Result<(), AllocError>
-    ensures before { writer.new.before ≡ writer.old.before }
-    ensures tokens { OnOk result (writer.new.tokens ≡ writer.old.tokens ++ json_tokens (owner_object survey.now owner.now)) }
+    ensures { Prints result writer.old writer.new (owner_object survey.now owner.now) }
 {
     writer.begin_object()?;
     put_text(writer, "what", owner_word(*owner))?;
@@ -74,8 +71,7 @@ fn put_owner_list(
     survey: &Survey,
     owners: &[Owner],
 ) -> Result<(), AllocError>
-    ensures before { writer.new.before ≡ writer.old.before }
-    ensures tokens { OnOk result (writer.new.tokens ≡ writer.old.tokens ++ json_tokens (array_of (map (owner_object survey.now) owners.now))) }
+    ensures { Prints result writer.old writer.new (array_of (map (owner_object survey.now) owners.now)) }
 {
     writer.begin_array()?;
     for owner in owners {
@@ -86,8 +82,7 @@ fn put_owner_list(
 
 /// Prints how many owners there are beside those that are shown, if there are more.
 fn put_more(writer: &mut Writer, count: usize) -> Result<(), AllocError>
-    ensures before { writer.new.before ≡ writer.old.before }
-    ensures tokens { OnOk result (writer.new.tokens ≡ writer.old.tokens ++ member_tokens (more_than_eight count)) }
+    ensures { PrintsMembers result writer.old writer.new (more_than_eight count) }
 {
     if count <= SHOWN_OWNERS {
         return Ok(());
@@ -102,8 +97,7 @@ pub(crate) fn put_owners(
     survey: &Survey,
     block: BlockNo,
 ) -> Result<(), AllocError>
-    ensures before { writer.new.before ≡ writer.old.before }
-    ensures tokens { OnOk result (writer.new.tokens ≡ writer.old.tokens ++ member_tokens (owner_members survey.now (owners_of survey.now block))) }
+    ensures { PrintsMembers result writer.old writer.new (owner_members survey.now (owners_of survey.now block)) }
 {
     let owners = survey.owners(block);
     writer.key("owners")?;

@@ -1,14 +1,12 @@
 //! Rows of CSV: the header, and the rows of files that cannot be read or have a wrong length.
 ghost use Rattle.std.specs.Prelude.{◌≡◌, [], ◌∷◌, ◌++◌, codes, OnOk, IfOk};
-ghost use Rattle.csv.specs.Records.{fields_of, partial_of};
 ghost use Rattle.csv.specs.Writing.{row_text, default_writer};
 ghost use Rattle.out_json_csv.specs.Rows.{in_digest, field_where, header_row, unanswered_row};
 ghost use Rattle.out_json_csv.specs.Unanswered.{no_dump_error};
 
-use crate::field::{push_field, push_fields, push_host_name};
+use crate::csv_row::CsvRow;
 use crate::scratch::Scratch;
 use crate::unanswered::{UNREAD, no_dump_error};
-use csv::{ByteRecord, Writer};
 use std::alloc::AllocError;
 
 /// The columns of each row, without the digest, the doubts and the error.
@@ -33,37 +31,19 @@ const COLUMNS: [&[u8]; 14] = [
 const EMPTY: [&[u8]; 13] = [b""; 13];
 
 /// Appends a row, whose last field is an error, to a text.
-pub fn end_row(row: &mut ByteRecord, error: &[u8], out: Vec<u8>) -> Result<Vec<u8>, AllocError>
-    requires { partial_of row.old ≡ [] }
-    ensures { IfOk result (λ text. text.items ≡ out.items ++ row_text default_writer (fields_of row.old ++ error.now ∷ [])) }
+pub fn end_row(row: &mut CsvRow, error: &[u8], out: Vec<u8>) -> Result<Vec<u8>, AllocError>
+    ensures { IfOk result (λ text. text.items ≡ out.items ++ row_text default_writer (row.old ++ error.now ∷ [])) }
 {
-    push_field(row, error)?;
-    write_row(row, out)
-}
-
-/// Appends a whole row to a text.
-fn write_row(row: &ByteRecord, out: Vec<u8>) -> Result<Vec<u8>, AllocError>
-    ensures { IfOk result (λ text. text.items ≡ out.items ++ row_text default_writer (fields_of row.now)) }
-{
-    let mut writer = Writer::from_writer(out);
-    match writer.write_byte_record(row) {
-        Ok(()) => {}
-        Err(_) => return Err(AllocError),
-    }
-    match writer.into_inner() {
-        Ok(text) => Ok(text),
-        Err(_) => Err(AllocError),
-    }
+    row.push_field(error)?;
+    row.write(out)
 }
 
 /// Appends a text in the column of the digest to a row, if there is such a column.
-fn push_in_digest(row: &mut ByteRecord, has_digest: bool, text: &[u8]) -> Result<(), AllocError>
-    requires { partial_of row.old ≡ [] }
-    ensures fields { OnOk result (fields_of row.new ≡ fields_of row.old ++ field_where (in_digest has_digest text.now)) }
-    ensures whole { OnOk result (partial_of row.new ≡ []) }
+fn push_in_digest(row: &mut CsvRow, has_digest: bool, text: &[u8]) -> Result<(), AllocError>
+    ensures { OnOk result (row.new ≡ row.old ++ field_where (in_digest has_digest text.now)) }
 {
     if has_digest {
-        return push_field(row, text);
+        return row.push_field(text);
     }
     Ok(())
 }
@@ -77,9 +57,9 @@ pub fn csv_header(
     ensures { IfOk result (λ text. text.items ≡ out.items ++ header_row has_digest) }
 {
     scratch.row.clear();
-    push_fields(&mut scratch.row, &COLUMNS)?;
+    scratch.row.push_fields(&COLUMNS)?;
     push_in_digest(&mut scratch.row, has_digest, b"sha256")?;
-    push_field(&mut scratch.row, b"doubts")?;
+    scratch.row.push_field(b"doubts")?;
     end_row(&mut scratch.row, b"error", out)
 }
 
@@ -94,10 +74,10 @@ fn push_unanswered(
     ensures { IfOk result (λ text. text.items ≡ out.items ++ unanswered_row name.now has_digest error.now) }
 {
     scratch.row.clear();
-    push_host_name(&mut scratch.text, &mut scratch.row, name)?;
-    push_fields(&mut scratch.row, &EMPTY)?;
+    scratch.row.push_host_name(&mut scratch.text, name)?;
+    scratch.row.push_fields(&EMPTY)?;
     push_in_digest(&mut scratch.row, has_digest, b"")?;
-    push_field(&mut scratch.row, b"")?;
+    scratch.row.push_field(b"")?;
     end_row(&mut scratch.row, error, out)
 }
 

@@ -1,8 +1,7 @@
 //! Buffers that are used for one line after another.
 ghost use Rattle.std.specs.Prelude.{◌≡◌, []};
-ghost use Rattle.csv.specs.Records.{fields_of};
 
-use csv::ByteRecord;
+use crate::csv_row::CsvRow;
 use std::alloc::Global;
 
 /// Buffers for the parts of a line, which are used for one line after another: a short part asks
@@ -12,18 +11,18 @@ pub struct Scratch {
     /// A text for a line.
     pub text: Vec<u8>,
     /// A row of CSV.
-    pub row: ByteRecord,
+    pub row: CsvRow,
 }
 
 impl Scratch {
     /// Returns buffers that have no memory yet.
     pub fn new(alloc: Global) -> Scratch
         ensures text { result.text.items ≡ [] }
-        ensures row { fields_of result.row ≡ [] }
+        ensures row { result.row ≡ [] }
     {
         Scratch {
             text: Vec::new(alloc),
-            row: ByteRecord::new(alloc),
+            row: CsvRow::new(alloc),
         }
     }
 }

@@ -1,6 +1,6 @@
 //! What is printed as JSON of a file that cannot be read or has a wrong length.
-ghost use Rattle.std.specs.Prelude.{◌≡◌, [], ◌∷◌, ◌++◌, length, OnOk, IfOk};
-ghost use Rattle.out_json_csv.specs.Values.{line_of, member_tokens, printed_line};
+ghost use Rattle.std.specs.Prelude.{◌≡◌, [], ◌∷◌, ◌++◌, length, IfOk};
+ghost use Rattle.out_json_csv.specs.Values.{PrintsMembers, line_of, printed_line};
 ghost use Rattle.out_json_csv.specs.Unanswered.{host_value, image_member, unanswered_object, unread_object, wrong_length_object, no_dump_object, no_dump_error};
 
 use crate::member::{put_number, put_text};
@@ -33,8 +33,7 @@ pub fn put_host_name(
     key: &str,
     name: &[u8],
 ) -> Result<(), AllocError>
-    ensures before { writer.new.before ≡ writer.old.before }
-    ensures tokens { OnOk result (writer.new.tokens ≡ writer.old.tokens ++ member_tokens ((key.now, host_value name.now) ∷ [])) }
+    ensures { PrintsMembers result writer.old writer.new ((key.now, host_value name.now) ∷ []) }
 {
     if let Ok(text) = str::from_utf8(name) {
         return put_text(writer, key, text);
@@ -45,8 +44,7 @@ pub fn put_host_name(
 
 /// Prints the member with the name of a file on the host.
 pub fn put_image(scratch: &mut Vec<u8>, writer: &mut Writer, name: &[u8]) -> Result<(), AllocError>
-    ensures before { writer.new.before ≡ writer.old.before }
-    ensures tokens { OnOk result (writer.new.tokens ≡ writer.old.tokens ++ member_tokens (image_member name.now ∷ [])) }
+    ensures { PrintsMembers result writer.old writer.new (image_member name.now ∷ []) }
 {
     put_host_name(scratch, writer, "image", name)
 }

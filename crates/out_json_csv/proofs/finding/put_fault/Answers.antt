@@ -1,23 +1,13 @@
-use Rattle.std.proofs.Common.{◌≡◌, List, [], ◌∷◌, ◌++◌, codes, rules}
-use Rattle.std.proofs.lemmas.Result.{on_ok_weaker}
-use Rattle.json.specs.Token.{begin_object}
+use Rattle.std.proofs.Common.{[], ◌∷◌, codes, rules}
 use Rattle.d64_survey.specs.Faults.{number}
-use Rattle.out_json_csv.specs.Values.{Field, numeral, member_tokens}
-use Rattle.out_json_csv.specs.Findings.{fault_members}
-use Rattle.out_json_csv.proofs.Objects.{members_written, object_written}
+use Rattle.out_json_csv.specs.Values.{PrintsMembers, numeral}
+use Rattle.out_json_csv.specs.Findings.{fault_object}
+use Rattle.out_json_csv.proofs.Objects.{members_printed, object_printed}
 use Rattle.out_json_csv.proofs.finding.put_fault.Goals as goal
 
-pub returns-clause-tokens : goal.returns-clause-tokens
-returns-clause-tokens c =
-    let fault = c.args.fault.now in
-    let condition : List Field = (codes "condition", numeral (number fault)) ∷ [] in
-    let more = fault_members c.args.survey.now fault in
-    let old = c.args.writer.now.tokens in
-    let opened = c.begin_object.new.self.tokens in
-    let first = c.put_number.new.writer.tokens in
-    let last = c.put_fault_members.new.writer.tokens in
-    let opens : opened ≡ old ++ begin_object ∷ [] = search rules in
-    let begun : first ≡ opened ++ member_tokens condition = search rules in
-    let done : last ≡ first ++ member_tokens more = search rules in
-    let all = members_written opened first last condition more begun done in
-    on_ok_weaker c.end_object.result (λ closes. object_written old opened last _ (condition ++ more) opens all closes) c.end_object.ensures.ok
+pub returns : goal.returns
+unfolding fault_object
+returns c =
+    let condition : PrintsMembers c.put_number.result c.begin_object.new.self c.put_number.new.writer ((codes "condition", numeral (number c.args.fault.now)) ∷ []) = search rules in
+    object_printed c.begin_object.ensures c.in_ok-begin_object.was
+    (members_printed condition c.in_ok-put_number.was c.put_fault_members.ensures) c.in_ok-put_fault_members.was c.end_object.ensures
