@@ -1,9 +1,9 @@
-//! Cutting a script into raw lines, and which of them are skipped or too long.
+//! Cutting a script into raw lines, and which of them are skipped.
 
 ghost use Rattle.std.specs.Prelude.{◌≡◌, length};
 ghost use Rattle.std.specs.Io.BufRead.{take_through};
 ghost use Rattle.std.specs.Iterator.{YieldsFirstRef, item_count};
-ghost use Rattle.script_text.specs.RawLines.{before_end, is_ended, is_skipped, is_too_long, lines_of, text_of};
+ghost use Rattle.script_text.specs.RawLines.{is_skipped, lines_of, text_of};
 
 /// The most bytes that a line has before its LF.
 pub const LINE_BYTES: usize = 1024;
@@ -40,23 +40,6 @@ fn line_end(script: &[u8]) -> usize
     }
 }
 
-/// Whether the line has its LF.
-pub fn is_ended(line: &[u8]) -> bool
-    ensures { result ≡ is_ended line.now }
-{
-    line.last() == Some(&b'\n')
-}
-
-/// The part of the line before its LF, or all of a line without one.
-pub fn before_end(line: &[u8]) -> &[u8]
-    ensures { result.now ≡ before_end line.now }
-{
-    match line {
-        [before @ .., b'\n'] => before,
-        _ => line,
-    }
-}
-
 /// The text of the line: without its LF, and without one CR right before it.
 pub fn text(line: &[u8]) -> &[u8]
     ensures { result.now ≡ text_of line.now }
@@ -66,13 +49,6 @@ pub fn text(line: &[u8]) -> &[u8]
         [text @ .., b'\n'] => text,
         _ => line,
     }
-}
-
-/// Whether the line has more than `LINE_BYTES` bytes before its LF, including a CR.
-pub fn is_too_long(line: &[u8]) -> bool
-    ensures { result ≡ is_too_long line.now }
-{
-    before_end(line).len() > LINE_BYTES
 }
 
 /// Whether the text has no command: it is empty, only spaces, or a comment after spaces.

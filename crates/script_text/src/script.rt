@@ -45,17 +45,10 @@ impl Script {
     }
 }
 
-/// Reads a script to its end. A read that fails stops it, also one that is interrupted.
+/// Reads an input to its end, as a script. Nothing was read of it before. A read that fails stops
+/// it, also one that is interrupted.
 ///
 /// If memory runs out, nothing is promised of what the reader has left.
-pub fn read_script<R: Read>(alloc: Global, reader: &mut R) -> Result<Script, AllocError>
-    ensures read { IfOk result (IsReadFrom (R.remaining reader.old) (R.remaining reader.new)) }
-    ensures bounded { IfOk result (λ script. vec_len script.bytes ≤ script_limit) }
-{
-    read_input(alloc, &mut InputStream::new(reader))
-}
-
-/// Reads an input to its end, as a script. Nothing was read of it before.
 pub fn read_input<R: Read>(
     alloc: Global,
     input: &mut InputStream<'_, R>,

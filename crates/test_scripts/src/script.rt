@@ -1,10 +1,12 @@
 //! The text of scripts and of their output.
 
 use script_text::dump::dump;
+use script_text::held_line::HeldLine;
+use script_text::input::InputStream;
 use script_text::number::number;
 use script_text::output::write_answer;
-use script_text::raw_lines::{RawLines, before_end, is_ended, is_skipped, is_too_long, text};
-use script_text::script::read_script;
+use script_text::raw_lines::{RawLines, is_skipped, text};
+use script_text::script::read_input;
 use script_text::status::Status;
 use script_text::words::{NoWords, Words};
 use std::process::Abort;
@@ -150,17 +152,20 @@ fn only_the_end_of_a_line_is_no_text(rt: HostRuntime) {
     assert_eq!(rt; text(b"a\r\r\n"), b"a\r".as_slice());
     assert_eq!(rt; text(b"\n"), b"".as_slice());
     assert_eq!(rt; text(b"c\r"), b"c\r".as_slice());
-    assert_eq!(rt; before_end(b"a\r\n"), b"a\r".as_slice());
-    assert!(rt; is_ended(b"a\n") && !is_ended(b"a\r"));
 }
 
 #[test]
 fn a_carriage_return_counts_for_the_length(rt: HostRuntime) {
-    let mut line = [b'a'; 1026];
-    line[1025] = b'\n';
-    assert!(rt; is_too_long(&line) && !is_too_long(&line[1..]));
+    let mut line = [b'a'; 1025];
     line[1024] = b'\r';
-    assert!(rt; is_too_long(&line) && !is_too_long(&line[1..]));
+    let mut held = HeldLine::new();
+    held.push(&line[1..]);
+    held.end_with_line_feed();
+    assert_eq!(rt; held.text(), Some(&line[1..1024]));
+    held.clear();
+    held.push(&line);
+    held.end_with_line_feed();
+    assert_eq!(rt; held.text(), None);
 }
 
 #[test]
@@ -174,7 +179,7 @@ fn blanks_and_comments_are_skipped(rt: HostRuntime) {
 #[test]
 fn reads_and_writes_whole_scripts(rt: HostRuntime) -> Result<(), Fail> {
     let mut reader = b"undo\nredo".as_slice();
-    let script = read_script(rt.alloc(), &mut reader)?;
+    let script = read_input(rt.alloc(), &mut InputStream::new(&mut reader))?;
     assert!(rt; script.whole);
     assert_eq!(rt; script.bytes.as_slice(), b"undo\nredo".as_slice());
 
