@@ -3,7 +3,7 @@ use Rattle.std.specs.Prelude.{nat_lt, if◌then◌else◌, [], length, Result, O
 use Rattle.d64_image.specs.Disk.{Bytes, Disk}
 use Rattle.d64_image.specs.Image.{sector_at}
 use Rattle.script_text.specs.Dump.{dump}
-use Rattle.script_commands.specs.Act.{Act, Ending, World, world_of, Does, LineAnswer, plain_answer}
+use Rattle.script_commands.specs.Act.{Act, Ending, world_of, Does, LineAnswer, plain_answer}
 use Rattle.host_storage.specs.Files.{HostState}
 use Rattle.d64_undo.specs.History.{History, present_image}
 use Rattle.script_commands.specs.declared.response.Response.{Response}
@@ -26,11 +26,10 @@ abbrev pub answer_of : Disk → Result Response Status → LineAnswer
 answer_of image (Ok response) = shown_answer image response
 answer_of image (Err status) = plain_answer status
 
--- an act is done with a response
-abbrev pub Responds : Act Ending → World → Result Response Status → World → Type 0
-Responds act old result new = Does act old (answer_of (present_image new.history) result) new
+-- an act is done with a response, by a host and a session: their states before and after
+abbrev pub Responds : Act Ending → HostState → History → Result Response Status → HostState → History → Type 0
+Responds act old_host old result new_host new = Does act (world_of old_host old) (answer_of (present_image new) result) (world_of new_host new)
 
 -- an act is done with a response by the session alone, whatever the host is
 abbrev pub RespondsAlone : Act Ending → History → Result Response Status → History → Type 0
-RespondsAlone act old result new =
-    (host : HostState) → Responds act (world_of host old) result (world_of host new)
+RespondsAlone act old result new = (host : HostState) → Responds act host old result host new

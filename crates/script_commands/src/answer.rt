@@ -66,10 +66,7 @@ fn answer_text<H: Host>(
     text: &[u8],
 ) -> Result<Response, Status>
     requires { length text.now ≤ 1024 }
-    ensures { Responds (act_of_text home.now session.old text.now)
-        (world_of (H.state host.old) session.old)
-        result
-        (world_of (H.state host.new) session.new) }
+    ensures { Responds (act_of_text home.now session.old text.now) (H.state host.old) session.old result (H.state host.new) session.new }
 {
     let Ok(words) = Words::of(text) else {
         return Err(Status::SyntaxError);
@@ -96,10 +93,7 @@ fn answer_many<H: Host>(
 ) -> Result<Response, Status>
     requires len { length words ≤ 512 }
     requires printable { All (All IsPrintable) words }
-    ensures { Responds (act_of_words home.now session.old words.entry)
-        (world_of (H.state host.old) session.old)
-        result
-        (world_of (H.state host.new) session.new) }
+    ensures { Responds (act_of_words home.now session.old words.entry) (H.state host.old) session.old result (H.state host.new) session.new }
 {
     let many = held::<MAX_WORDS>(words);
     answer_arguments(alloc, host, home, session, many.as_slice())
@@ -134,10 +128,7 @@ fn answer_arguments<H: Host>(
     session: &mut Session,
     words: &[&str],
 ) -> Result<Response, Status>
-    ensures { Responds (act_of_words home.now session.old (map (λ word. word.now) words.now))
-        (world_of (H.state host.old) session.old)
-        result
-        (world_of (H.state host.new) session.new) }
+    ensures { Responds (act_of_words home.now session.old (map (λ word. word.now) words.now)) (H.state host.old) session.old result (H.state host.new) session.new }
 {
     match Line::of(words) {
         Ok(line) => answer(alloc, host, home, session, line),
@@ -153,10 +144,7 @@ fn answer<H: Host>(
     session: &mut Session,
     line: Line,
 ) -> Result<Response, Status>
-    ensures { Responds (act_of home.now session.old line.entry)
-        (world_of (H.state host.old) session.old)
-        result
-        (world_of (H.state host.new) session.new) }
+    ensures { Responds (act_of home.now session.old line.entry) (H.state host.old) session.old result (H.state host.new) session.new }
 {
     match line {
         Line::Block { track, sector } => handlers::block(session, track, sector),

@@ -4,7 +4,6 @@
 ghost use Rattle.std.specs.Prelude.{◌≡◌, ◌<◌, ◌≤◌, All, Some, None, [], map, option_map, length};
 ghost use Rattle.d64_dos.specs.Change.{change_of};
 ghost use Rattle.d64_dos.specs.Command.{IsWithin};
-ghost use Rattle.script_commands.specs.Act.{world_of};
 ghost use Rattle.script_commands.specs.Response.{Responds, RespondsAlone};
 ghost use Rattle.petscii.specs.Spelling.{spelling};
 ghost use Rattle.script_commands.specs.FoundFile.{is_file_name};
@@ -61,10 +60,7 @@ pub(crate) fn block_read<H: Host>(
     track: &str,
     sector: &str,
 ) -> Result<Response, Status>
-    ensures { Responds (block_read_act session.now (name.now, (track.now, sector.now)))
-        (world_of (H.state host.old) session.now)
-        result
-        (world_of (H.state host.new) session.now) }
+    ensures { Responds (block_read_act session.now (name.now, (track.now, sector.now))) (H.state host.old) session.now result (H.state host.new) session.now }
 {
     let name = host_in(name)?;
     let image = session.image();
@@ -81,10 +77,7 @@ pub(crate) fn block_write<H: Host>(
     track: &str,
     sector: &str,
 ) -> Result<Response, Status>
-    ensures { Responds (block_write_act session.old (name.now, (track.now, sector.now)))
-        (world_of (H.state host.old) session.old)
-        result
-        (world_of (H.state host.new) session.new) }
+    ensures { Responds (block_write_act session.old (name.now, (track.now, sector.now))) (H.state host.old) session.old result (H.state host.new) session.new }
 {
     let name = host_in(name)?;
     let at = block_in(session.image(), track, sector)?;
@@ -125,10 +118,7 @@ pub(crate) fn crunch<H: Host>(
     source: &str,
     name: Option<&str>,
 ) -> Result<Response, Status>
-    ensures { Responds (crunch_act session.old (source.now, option_map (λ word. word.now) name.entry))
-        (world_of (H.state host.old) session.old)
-        result
-        (world_of (H.state host.new) session.new) }
+    ensures { Responds (crunch_act session.old (source.now, option_map (λ word. word.now) name.entry)) (H.state host.old) session.old result (H.state host.new) session.new }
 {
     let file = host_in(source)?;
     let name = name_in(alloc, name_word(source, name))?;
@@ -202,10 +192,7 @@ pub(crate) fn keep<H: Host>(
     session: &Session,
     name: &str,
 ) -> Result<Response, Status>
-    ensures { Responds (keep_act session.now name.now)
-        (world_of (H.state host.old) session.now)
-        result
-        (world_of (H.state host.new) session.now) }
+    ensures { Responds (keep_act session.now name.now) (H.state host.old) session.now result (H.state host.new) session.now }
 {
     let name = host_in(name)?;
     let file = session.keep(alloc)?;
@@ -294,10 +281,7 @@ pub(crate) fn read<H: Host>(
     name: &str,
     target: Option<&str>,
 ) -> Result<Response, Status>
-    ensures { Responds (read_act session.now (name.now, option_map (λ word. word.now) target.entry))
-        (world_of (H.state host.old) session.now)
-        result
-        (world_of (H.state host.new) session.now) }
+    ensures { Responds (read_act session.now (name.now, option_map (λ word. word.now) target.entry)) (H.state host.old) session.now result (H.state host.new) session.now }
 {
     let pattern = pattern_in(alloc, name)?;
     match target {
@@ -314,10 +298,7 @@ fn read_to<H: Host>(
     pattern: &Pattern,
     word: &str,
 ) -> Result<Response, Status>
-    ensures { Responds (read_to session.now pattern.now (Some word.now))
-        (world_of (H.state host.old) session.now)
-        result
-        (world_of (H.state host.new) session.now) }
+    ensures { Responds (read_to session.now pattern.now (Some word.now)) (H.state host.old) session.now result (H.state host.new) session.now }
 {
     let name = host_in(word)?;
     match d64_dos::read(alloc, session.image(), pattern) {
@@ -333,10 +314,7 @@ fn read_as_found<H: Host>(
     session: &Session,
     pattern: &Pattern,
 ) -> Result<Response, Status>
-    ensures { Responds (read_to session.now pattern.now None)
-        (world_of (H.state host.old) session.now)
-        result
-        (world_of (H.state host.new) session.now) }
+    ensures { Responds (read_to session.now pattern.now None) (H.state host.old) session.now result (H.state host.new) session.now }
 {
     let file = d64_dos::read(alloc, session.image(), pattern).map_err(of_refusal)?;
     let name = to_text(alloc, file.name.as_slice())?;
@@ -379,10 +357,7 @@ pub(crate) fn save<H: Host>(
     session: &Session,
     name: Option<&str>,
 ) -> Result<Response, Status>
-    ensures { Responds (save_act home.now session.now (option_map (λ word. word.now) name.entry))
-        (world_of (H.state host.old) session.now)
-        result
-        (world_of (H.state host.new) session.now) }
+    ensures { Responds (save_act home.now session.now (option_map (λ word. word.now) name.entry)) (H.state host.old) session.now result (H.state host.new) session.now }
 {
     let name = match name {
         Some(word) => host_in(word)?,
@@ -442,10 +417,7 @@ pub(crate) fn write<H: Host>(
     source: &str,
     name: Option<&str>,
 ) -> Result<Response, Status>
-    ensures { Responds (write_act session.old (source.now, option_map (λ word. word.now) name.entry))
-        (world_of (H.state host.old) session.old)
-        result
-        (world_of (H.state host.new) session.new) }
+    ensures { Responds (write_act session.old (source.now, option_map (λ word. word.now) name.entry)) (H.state host.old) session.old result (H.state host.new) session.new }
 {
     let file = host_in(source)?;
     let (name, kind) = name_and_kind_of(source, name)?;
@@ -458,10 +430,7 @@ pub(crate) fn write<H: Host>(
 
 /// Stores bytes in a host file.
 fn store<H: Host>(alloc: Global, host: &mut H, name: &str, bytes: &[u8]) -> Result<Response, Status>
-    ensures { (history : History) → Responds (put history name.now bytes.now)
-        (world_of (H.state host.old) history)
-        result
-        (world_of (H.state host.new) history) }
+    ensures { (history : History) → Responds (put history name.now bytes.now) (H.state host.old) history result (H.state host.new) history }
 {
     match host.store(alloc, name, bytes) {
         Ok(()) => Ok(Response::plain(Status::Done)),
