@@ -18,4 +18,4 @@ pub use host_storage::{FolderHost, Host, HostFault, MemoryHost};
 pub use program_arguments::{Job, JobFault, job};
 pub use program_console::Console;
 pub use program_exit::ProgramFault;
-pub use script_run::{Observer, Outcome, ShellFault, laws, run, run_on};
+pub use script_run::{Observer, Outcome, ShellFault, laws, run};

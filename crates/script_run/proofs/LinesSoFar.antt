@@ -1,5 +1,5 @@
 -- Runs that come through a script line by line.
-use Rattle.std.proofs.Common.{◌≡◌, ℕ, ◌+◌, ◌<◌, List, [], ◌∷◌, ◌++◌, length, true, false, map, Option, refl, sym, ap, ◌∙◌, subst, append_assoc, append-nil, arith, ◌||◌, eqb, eqb-true}
+use Rattle.std.proofs.Common.{◌≡◌, MutBor, ℕ, ◌+◌, ◌<◌, List, [], ◌∷◌, ◌++◌, length, true, false, map, Option, refl, sym, ap, ◌∙◌, subst, append_assoc, append-nil, arith, ◌||◌, eqb, eqb-true}
 use Rattle.std.specs.Io.KnownBytes.{Appends}
 use Rattle.std.specs.Prelude.{MatchResult, OnOk, OnErr, if◌then◌else◌, Result, Ok, Err}
 use Rattle.std.proofs.KnownBytes.{Appends-nil, Appends-trans}
@@ -12,6 +12,7 @@ use Rattle.script_text.specs.Status.{is_accepted}
 use Rattle.script_run.specs.Transcript.{ends_script, RunOptions, RunProgress, Transcript, counted_progress}
 use Rattle.script_run.specs.Runner.{ScriptState, first_progress, RanLines, StoppedAt}
 use Rattle.script_run.specs.LineByLine.{KeepsRun, progress_of, RunsLine, StopsInLine, ended_line, lines_in}
+use Rattle.script_text.specs.declared.held_line.HeldLine.{HeldLine}
 use Rattle.script_run.specs.declared.runner.LineRunner.{LineRunner}
 use Rattle.script_run.specs.declared.runner.Tally.{Tally}
 use Rattle.script_run.proofs.ScriptLines.{lines_in-append, lines_in-ended, lines_in-last}
@@ -148,13 +149,18 @@ pub has_some : (bytes : List ℕ) → eqb (length bytes) 0 ≡ false → 0 < len
 has_some [] some = absurd (false≢true (sym some))
 has_some (byte ∷ rest) some = omega arith
 
--- what stays the same stays so
-pub KeepsRun-trans : {L W H : Type 0} (first old new : LineRunner L W H) → KeepsRun first old → KeepsRun old new → KeepsRun first new
-KeepsRun-trans first old new a b = record {
+-- what stays the same stays so, while one line is ended and another is begun
+pub KeepsRun-line : {L W H : Type 0} (first old new : LineRunner L W H) (observer : MutBor L) (ended begun : HeldLine) → observer.ghost_name ≡ old.observer.ghost_name
+    → KeepsRun first old → KeepsRun (record old { observer = observer; line = ended }) new → KeepsRun first (record new { line = begun })
+KeepsRun-line first old new observer ended begun same a b = record {
   options = b.options ∙ a.options;
-  observer = b.observer ∙ a.observer;
+  observer = b.observer ∙ same ∙ a.observer;
   output = b.output ∙ a.output;
   writer = b.writer ∙ a.writer;
   host = b.host ∙ a.host;
   session = b.session ∙ a.session;
 }
+
+-- or with the same line and observer
+pub KeepsRun-trans : {L W H : Type 0} (first old new : LineRunner L W H) → KeepsRun first old → KeepsRun old new → KeepsRun first new
+KeepsRun-trans first old new a b = KeepsRun-line first old new old.observer old.line new.line refl a b

@@ -9,4 +9,4 @@ mod runner;
 
 pub use observer::{Nobody, Observer, Opening};
 pub use run_options::{Refusals, RunOptions};
-pub use runner::{Outcome, ScriptRunner, ShellFault, run, run_on, run_script};
+pub use runner::{Outcome, ScriptRunner, ShellFault, run};

@@ -126,69 +126,16 @@ pub fn run<R: Read, W: Write, H: Host>(
 {
     let mut input = InputStream::new(reader);
     let mut output = OutputStream::new(writer);
-    run_on(alloc, &mut input, &mut output, host, home, session)
-}
-
-/// Runs the script of an input of which nothing was read, and prints to an output that has not
-/// failed.
-///
-/// `Read` comes if a read failed or a limit was reached, and `Write` if a write or a flush failed.
-/// No read is made while something printed is not delivered, nor after a call that failed or an
-/// accepted `quit`.
-pub fn run_on<R: Read, W: Write, H: Host>(
-    alloc: Global,
-    input: &mut InputStream<'_, R>,
-    output: &mut OutputStream<'_, W>,
-    host: &mut H,
-    home: &str,
-    session: &mut Session,
-) -> Result<Outcome, ShellFault>
-    requires unread { IsUnread (reading_of input.old.reads input.old.came input.old.has_failed) }
-    requires unfailed { output.old.has_failed ≡ false }
-    requires delivered { output.old.is_delivered ≡ true }
-    ensures input { input.new.reader.ghost_name ≡ input.old.reader.ghost_name }
-    ensures output { output.new.writer.ghost_name ≡ output.old.writer.ghost_name }
-    ensures ran { Ran (going_on home.now) (R.remaining input.old.reader.now) (R.remaining input.new.reader.now)
-        (script_state (W.contents output.old.writer.now) (world_of (H.state host.old) session.old))
-        (script_state (W.contents output.new.writer.now) (world_of (H.state host.new) session.new))
-        result }
-    ensures streams { EndsWith result (reading_of input.new.reads input.new.came input.new.has_failed) output.new.has_failed }
-{
-    let options = RunOptions {
-        home,
-        refusals: Refusals::GoOn,
-    };
-    run_script(alloc, input, output, host, options, session)
-}
-
-/// Runs the script of an input of which nothing was read, and prints to an output that has not
-/// failed. There is no observer.
-pub fn run_script<R: Read, W: Write, H: Host>(
-    alloc: Global,
-    input: &mut InputStream<'_, R>,
-    output: &mut OutputStream<'_, W>,
-    host: &mut H,
-    options: RunOptions<'_>,
-    session: &mut Session,
-) -> Result<Outcome, ShellFault>
-    requires unread { IsUnread (reading_of input.old.reads input.old.came input.old.has_failed) }
-    requires unfailed { output.old.has_failed ≡ false }
-    requires delivered { output.old.is_delivered ≡ true }
-    ensures input { input.new.reader.ghost_name ≡ input.old.reader.ghost_name }
-    ensures output { output.new.writer.ghost_name ≡ output.old.writer.ghost_name }
-    ensures ran { Ran (options_of options.entry) (R.remaining input.old.reader.now) (R.remaining input.new.reader.now)
-        (script_state (W.contents output.old.writer.now) (world_of (H.state host.old) session.old))
-        (script_state (W.contents output.new.writer.now) (world_of (H.state host.new) session.new))
-        result }
-    ensures streams { EndsWith result (reading_of input.new.reads input.new.came input.new.has_failed) output.new.has_failed }
-{
     let mut nobody = Nobody;
     let runner = ScriptRunner {
         alloc,
-        options,
+        options: RunOptions {
+            home,
+            refusals: Refusals::GoOn,
+        },
         observer: &mut nobody,
     };
-    runner.run(input, output, host, session)
+    runner.run(&mut input, &mut output, host, session)
 }
 
 /// What runs a script: memory, how the script is run, and the observer.

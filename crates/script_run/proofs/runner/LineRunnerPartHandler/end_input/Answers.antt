@@ -1,6 +1,6 @@
 use Rattle.std.proofs.Common.{refl, sym, ap, ◌∙◌}
 use Rattle.script_run.specs.Runner.{options_of}
-use Rattle.script_run.proofs.LinesSoFar.{KeepsRun-trans, RanLines-last, RanLines-whole, StoppedAt-last, has_none, has_some}
+use Rattle.script_run.proofs.LinesSoFar.{KeepsRun-line, KeepsRun-trans, RanLines-last, RanLines-whole, StoppedAt-last, has_none, has_some}
 use Rattle.script_run.proofs.runner.LineRunnerPartHandler.end_input.Goals as goal
 
 pub returns-then-is_empty : goal.returns-then-is_empty
@@ -20,14 +20,7 @@ returns-in-Ok g c = λ first parts last come is_open.
     let some = has_some last (sym (c.is_empty.ensures last come.held) ∙ c.if-is_empty.false) in
     let says = c.end_with_script.ensures last come.held is_open in
     record {
-      keeps = KeepsRun-trans first _ _ come.keeps record {
-        options = c.run_line.ensures.kept.options;
-        observer = c.run_line.ensures.kept.observer;
-        output = c.run_line.ensures.kept.output;
-        writer = c.run_line.ensures.kept.writer;
-        host = c.run_line.ensures.kept.host;
-        session = c.run_line.ensures.kept.session;
-      };
+      keeps = KeepsRun-line first c.args.self.now c.run_line.new.self _ c.args.self.now.line c.run_line.new.self.line refl come.keeps c.run_line.ensures.kept;
       ran = (
         _,
         RanLines-last (options_of first.options) _ _ _ _ parts last _ _ come.ran come.open_run some (ap options_of come.keeps.options) (c.in-Ok.ensures.ran last says come.open_run),
@@ -42,14 +35,7 @@ returns-in-Err g c = λ first parts last come is_open.
     let some = has_some last (sym (c.is_empty.ensures last come.held) ∙ c.if-is_empty.false) in
     let says = c.end_with_script.ensures last come.held is_open in
     record {
-      keeps = KeepsRun-trans first _ _ come.keeps record {
-        options = c.run_line.ensures.kept.options;
-        observer = c.run_line.ensures.kept.observer;
-        output = c.run_line.ensures.kept.output;
-        writer = c.run_line.ensures.kept.writer;
-        host = c.run_line.ensures.kept.host;
-        session = c.run_line.ensures.kept.session;
-      };
+      keeps = KeepsRun-line first c.args.self.now c.run_line.new.self _ c.args.self.now.line c.run_line.new.self.line refl come.keeps c.run_line.ensures.kept;
       ran = (
         refl,
         StoppedAt-last (options_of first.options) _ _ _ _ parts last _ come.ran come.open_run some (ap options_of come.keeps.options) (c.in-Err.ensures.ran last says come.open_run),
