@@ -4,6 +4,8 @@ use Rattle.std.specs.Prelude.{IfOk}
 use Rattle.script_text.specs.Output.{Account}
 use Rattle.program_arguments.specs.declared.jobs.Job.{Job}
 use Rattle.program_batch.specs.Answers.{KeepsQuiet, Rule, by_rule}
+use Rattle.program_reports.specs.Printings.{Printing, survey_rule}
+use Rattle.program_reports.proofs.Quiet.{survey-is_quiet}
 use Rattle.cmd_extract.specs.Effects.{unpacks}
 use Rattle.cmd_extract.specs.Setup.{SetupView}
 use Rattle.cmd_extract.specs.declared.unpacker.Unpacker.{Unpacker}
@@ -26,6 +28,11 @@ pub survey_ended : (job : Job) (rule : Rule) (heading : List ℕ) (files shown :
 survey_ended job rule heading files shown old new status is same ended =
     subst (λ (work : JobWork). EndedWork work old new status) (sym is)
     (subst (λ (f : SurveyFiles). EndedSurvey (by_rule rule) heading f old new status) same ended)
+
+-- a report writes nothing to the standard error about a clean image, if there was memory to begin
+pub report_is_quiet : {A E : Type 0} (made : Result A E) (printing : A → Printing) → IfOk made (λ report. KeepsQuiet (by_rule (survey_rule (printing report))))
+report_is_quiet (Ok report) printing = survey-is_quiet (printing report)
+report_is_quiet (Err error) printing = tt
 
 -- a job whose work is a script has ended as that has
 pub script_ended : (job : Job) (beginning begun : Beginning) (source from : Source) (options at : RunOptions) (old new : Outside) (status : ℕ)

@@ -23,7 +23,7 @@ use program_arguments::Job;
 use program_console::Console;
 use program_exit::{NOT_RUN, report_no_job};
 use program_reports::SurveyReport;
-use program_surveys::{DifferenceJob, FileNames, MergeJob, SurveyJob};
+use program_surveys::{DifferenceJob, FileNames, MergeJob, SurveyJob, run_whole};
 use script_run::{Nobody, Observer};
 use script_text::input::InputStream;
 use script_text::output::OutputStream;
@@ -42,7 +42,7 @@ use std::io::{Read, Write};
 /// `crunch` work on what `reader` gives, or on the file that the host has under the name that they
 /// are given. The writer is flushed before a status is returned; each line of output is a few
 /// writes, so a writer that buffers is faster. A contract cannot say of plain streams whether a
-/// call of theirs failed: `program_on` takes streams of which it can.
+/// call of theirs failed: an `ObservedProgram` takes streams of which it can.
 pub fn program<R: Read, W: Write, F: Write, H: Host>(
     alloc: Global,
     words: &[&str],
@@ -63,35 +63,12 @@ pub fn program<R: Read, W: Write, F: Write, H: Host>(
         OutputStream::new(writer),
         OutputStream::new(faults),
     );
-    program_on(alloc, words, &mut console, host)
-}
-
-/// Does what the arguments ask for on a console from which nothing was read yet and whose output
-/// has not failed, and returns the exit status. Status 0 is returned only if all that was printed
-/// was delivered, and the line of a fault, a tool's status line and what is wrong with the
-/// arguments are written whole unless writing them fails.
-pub fn program_on<R: Read, W: Write, F: Write, H: Host>(
-    alloc: Global,
-    words: &[&str],
-    console: &mut Console<'_, R, W, F>,
-    host: &mut H,
-) -> u8
-    requires fresh { IsFresh console.old }
-    ensures same { SameStreams console.old console.new }
-    ensures status { result ≤ 2 }
-    ensures delivered { result ≡ 0 → IsDelivered console.new.outputs.output }
-    ensures ended { Ended (map (λ word. word.now) words.now)
-        (outside_at R.remaining W.contents F.contents console.old (H.state host.old))
-        (outside_at R.remaining W.contents F.contents console.new (H.state host.new)) result }
-    ensures silent { (AsksToPassOver (map (λ word. word.now) words.now) → ⊥) → result ≡ 0 → console.new.outputs.faults ≡ console.old.outputs.faults }
-    ensures script { AsksForShell (map (λ word. word.now) words.now) → result ≢ 2 → console.new.outputs.faults ≡ console.old.outputs.faults }
-{
     let mut nobody = Nobody;
     let program = ObservedProgram {
         alloc,
         observer: &mut nobody,
     };
-    program.run(words, console, host)
+    program.run(words, &mut console, host)
 }
 
 /// The program with memory, and an observer that follows the shell's output if the script is the
@@ -103,7 +80,10 @@ pub struct ObservedProgram<'l, L: Observer> {
 }
 
 impl<'l, L: Observer> ObservedProgram<'l, L> {
-    /// Does what `program_on` does, in the same way with every observer.
+    /// Does what the arguments ask for on a console from which nothing was read yet and whose output
+    /// has not failed, and returns the exit status, in the same way with every observer. Status 0 is
+    /// returned only if all that was printed was delivered, and the line of a fault, a tool's status
+    /// line and what is wrong with the arguments are written whole unless writing them fails.
     pub fn run<R: Read, W: Write, F: Write, H: Host>(
         self,
         words: &[&str],
@@ -241,7 +221,7 @@ impl<'l, L: Observer> ObservedProgram<'l, L> {
             } => {
                 let form = Form { format, leftovers };
                 let task = Unpacker::new(alloc, setup_of(extraction, form));
-                SurveyJob::new(alloc, FileNames::of(&names)).run_by(task, console, host)
+                SurveyJob::new(alloc, FileNames::of(&names)).run(task, console, host)
             }
             Job::Map { format, file } => {
                 let printer = MapPrinter::new(format);
@@ -255,7 +235,8 @@ impl<'l, L: Observer> ObservedProgram<'l, L> {
                 SurveyJob::new(alloc, FileNames::of(&names)).run(report, console, host)
             }
             Job::Diff { format, old, new } => {
-                DifferenceJob::new(alloc, format, old.as_str(), new.as_str()).run(console, host)
+                let task = DifferenceJob::new(alloc, format, old.as_str(), new.as_str());
+                run_whole(alloc, &task, console, host)
             }
             Job::Merge {
                 merging,
@@ -263,7 +244,7 @@ impl<'l, L: Observer> ObservedProgram<'l, L> {
                 files,
             } => {
                 let setup = merge_setup_of(merging, format, files);
-                MergeJob::new(alloc, &setup).run(console, host)
+                run_whole(alloc, &MergeJob::new(alloc, &setup), console, host)
             }
         }
     }

@@ -13,7 +13,7 @@ pub use d64_undo::laws::{
     memory_alone_is_free, memory_for_acceptance, redo_after_undo, retraced, undo_after_command,
 };
 pub use d64_undo::{Answer, NothingToRedo, NothingToUndo, Request, Session, run_all};
-pub use entry::{ObservedProgram, program, program_on};
+pub use entry::{ObservedProgram, program};
 pub use host_storage::{FolderHost, Host, HostFault, MemoryHost};
 pub use program_arguments::{Job, JobFault, job};
 pub use program_console::Console;

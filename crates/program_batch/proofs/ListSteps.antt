@@ -1,9 +1,8 @@
 -- How far a run over a list has come, name by name.
-use Rattle.std.proofs.Common.{◌≡◌, ℕ, Bool, true, false, if◌then◌else◌, List, [], ◌∷◌, ◌++◌, Result, Ok, Err, refl, sym, ap, ◌∙◌, subst, append_assoc}
+use Rattle.std.proofs.Common.{◌≡◌, ℕ, true, List, [], ◌∷◌, ◌++◌, Result, Ok, Err, refl, sym, ap, ◌∙◌, subst, append_assoc}
 use Rattle.std.specs.Prelude.{OnOk}
-use Rattle.program_batch.specs.Names.{Request, File, NoFile, kept_name, is_name, is_file_name, name_reason, shortened_name, listed_name, requests_in, requests_of}
+use Rattle.program_batch.specs.Names.{Request, kept_name, requests_in, requests_of}
 use Rattle.program_batch.specs.Answers.{Effects, KeepsQuiet}
-use Rattle.program_batch.specs.declared.reason.Reason.{Reason}
 use Rattle.program_batch.specs.declared.list_batch.ListRun.{ListRun}
 use Rattle.program_batch.specs.Runs.{RunState, Steps, Runs, StopsIn, EndsAt}
 use Rattle.program_batch.specs.Lists.{HasComeTo, KeepsList, ListView, effects_of, state_of}
@@ -69,22 +68,10 @@ OnOk-map (Ok done) P Q step p = step p
 OnOk-map (Err fault) P Q step p = tt
 
 -- an empty name gives no request
-pub Runs-no_name : (effects : Effects) (a : RunState) (held : List ℕ) → is_name held ≡ false → Steps effects (requests_of held) a a
-Runs-no_name effects a held none = subst (λ (t : Bool). Steps effects (if t then listed_name held ∷ [] else []) a a) (sym none) (Steps-none effects a)
+pub Runs-no_name : (effects : Effects) (a : RunState) (requests : List Request) → requests ≡ [] → Steps effects requests a a
+Runs-no_name effects a requests none = subst (λ (l : List Request). Steps effects l a a) (sym none) (Steps-none effects a)
 
 -- a name gives one request
-pub Runs-name : {A : Type 0} (effects : Effects) (request : Request) (a b : RunState) (held : List ℕ) (result : Result A StreamFault)
-    → is_name held ≡ true → listed_name held ≡ request → EndsAt effects request a b result → Runs effects (requests_of held) a b result
-Runs-name effects request a b held result named is ends =
-    subst (λ (l : List Request). Runs effects l a b result) (sym (ap (λ (t : Bool). if t then listed_name held ∷ [] else []) named ∙ ap (λ (y : Request). y ∷ []) is))
-    (Runs-one effects request a b result ends)
-
--- the request for a name that can be a file's
-pub listed_name-file : (held name : List ℕ) → is_file_name held ≡ true → name ≡ held → listed_name held ≡ File name
-listed_name-file held name can is = ap (λ (t : Bool). if t then File held else NoFile (shortened_name held) (name_reason held)) can ∙ ap File (sym is)
-
--- the request for a name that cannot
-pub listed_name-no_file : (held name : List ℕ) (reason : Reason) → is_file_name held ≡ false → name ≡ shortened_name held → reason ≡ name_reason held → listed_name held ≡ NoFile name reason
-listed_name-no_file held name reason cannot is why =
-    ap (λ (t : Bool). if t then File held else NoFile (shortened_name held) (name_reason held)) cannot
-    ∙ ap (λ (r : Reason). NoFile (shortened_name held) r) (sym why) ∙ ap (λ (n : List ℕ). NoFile n reason) (sym is)
+pub Runs-name : {A : Type 0} (effects : Effects) (request : Request) (a b : RunState) (requests : List Request) (result : Result A StreamFault)
+    → requests ≡ request ∷ [] → EndsAt effects request a b result → Runs effects requests a b result
+Runs-name effects request a b requests result is ends = subst (λ (l : List Request). Runs effects l a b result) (sym is) (Runs-one effects request a b result ends)

@@ -49,10 +49,10 @@ ends_unread effects name fault reason old host new answer (Err faults.Memory) fe
 ends_unread effects name fault reason old host new answer (Err faults.Write) fetched given is_reason ends = absurd ends
 ends_unread effects name fault reason old host new answer (Err faults.Read) fetched given is_reason ends = absurd ends
 
--- a name that cannot be a file's was processed
-pub serves_no_file : (effects : Effects) (name : List ℕ) (reason : Reason) (old new : HostState) (answer : Verdict → Answer) (verdict : Verdict)
-    → EndsUnread effects name (Some reason) old new answer (Ok verdict) → Serves effects (NoFile name reason) old (answer verdict) new
-serves_no_file effects name reason old new answer verdict ends = record {
+-- a name that cannot be a file's ends as its task ends
+pub ends_no_file : (effects : Effects) (name : List ℕ) (reason : Reason) (old new : HostState) (answer : Verdict → Answer) (result : Result Verdict StreamFault)
+    → EndsUnread effects name (Some reason) old new answer result → EndsServing effects (NoFile name reason) old new answer result
+ends_no_file effects name reason old new answer (Ok verdict) ends = record {
   bytes = None;
   host = old;
   read = (refl, refl);
@@ -62,8 +62,6 @@ serves_no_file effects name reason old new answer verdict ends = record {
   why = refl;
   is = ends.2;
 }
-
--- or memory ran out while it was
-pub halts_no_file : (effects : Effects) (name : List ℕ) (reason : Reason) (old new : HostState) (answer : Verdict → Answer)
-    → EndsUnread effects name (Some reason) old new answer (Err faults.Memory) → Halts effects (NoFile name reason) old new
-halts_no_file effects name reason old new answer ends = record { bytes = None; host = old; read = (refl, refl); halted = ends }
+ends_no_file effects name reason old new answer (Err faults.Memory) ends = inl (record { bytes = None; host = old; read = (refl, refl); halted = ends })
+ends_no_file effects name reason old new answer (Err faults.Write) ends = absurd ends
+ends_no_file effects name reason old new answer (Err faults.Read) ends = absurd ends

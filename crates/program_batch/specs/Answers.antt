@@ -1,4 +1,4 @@
--- The result of a file, and what a report promises.
+-- The result of a file, and what a task may do with it.
 use Rattle.std.specs.Prelude.{◌≡◌, ℕ, List, [], Option}
 use Rattle.host_storage.specs.Files.{HostState}
 use Rattle.program_batch.specs.declared.report.Verdict.{Verdict}
@@ -36,10 +36,6 @@ by_rule rule = record {
 abbrev pub KeepsQuiet : Effects → Type 0
 KeepsQuiet effects = (name : List ℕ) (bytes : Option (List ℕ)) (old : HostState) (answer : Answer) (new : HostState)
     → effects.does name bytes old answer new → answer.verdict ≡ Clean → answer.complaint ≡ []
-
--- by this rule a file with a clean verdict puts nothing on the standard error
-abbrev pub IsQuiet : Rule → Type 0
-IsQuiet rule = (name : List ℕ) (bytes : Option (List ℕ)) → (rule name bytes).verdict ≡ Clean → (rule name bytes).complaint ≡ []
 
 -- the worse of two verdicts
 abbrev pub worse_verdict : Verdict → Verdict → Verdict

@@ -1,11 +1,13 @@
 //! `Batch`: files are read, processed and flushed, one after another.
 ghost use Rattle.std.specs.Prelude.{◌≡◌, [], true, map, string_bytes, IfOk, OnErr, OnOk};
-ghost use Rattle.program_batch.specs.Names.{File, NoFile as no_file};
+ghost use Rattle.program_batch.specs.Names.{File};
+ghost use Rattle.program_batch.specs.Asked.{request_of};
 ghost use Rattle.program_batch.specs.Answers.{KeepsQuiet, answer_of};
 ghost use Rattle.program_batch.specs.Runs.{Begins, EndsAt, EndsServing, EndsUnread, Runs, ReportsResult, run_state_at, reported_at};
 ghost use Rattle.program_console.specs.Console.{Delivers, SameWriters, StaysDelivered};
 ghost use Rattle.program_console.specs.Outside.{account_at};
 
+use crate::asked::Asked;
 use crate::reason::{Reason, push_known_reason, reason_of};
 use crate::report::{ReportBuffer, Verdict};
 use crate::task::FileTask;
@@ -17,13 +19,6 @@ use std::io::Write;
 
 /// The most bytes of an image, a program or a text that are read from a file.
 pub const FILE_BYTES: usize = 16_777_216;
-
-/// A name that cannot be a file's: how it is shown, and why.
-#[derive(Clone, Copy, Debug)]
-pub(crate) struct NoFile<'n> {
-    pub(crate) shown: &'n [u8],
-    pub(crate) reason: Reason,
-}
 
 /// The buffers of a run, which are used for one file after another, and its worst verdict so far.
 #[derive(Drop)]
@@ -71,10 +66,10 @@ impl Batch {
         Ok(())
     }
 
-    /// Processes a file of the host.
-    pub(crate) fn answer_file<H: Host, C: FileTask, W: Write, F: Write>(
+    /// Processes what is asked for: a file of the host, or a name that cannot be a file's.
+    pub(crate) fn answer<H: Host, C: FileTask, W: Write, F: Write>(
         &mut self,
-        name: &str,
+        asked: Asked<'_>,
         host: &mut H,
         task: &mut C,
         outputs: &mut Outputs<'_, W, F>,
@@ -83,29 +78,36 @@ impl Batch {
         ensures options { C.options task.new ≡ C.options task.old }
         ensures delivered { OnOk result (Delivers outputs.old.output outputs.new.output) }
         ensures silent { KeepsQuiet (C.effects (C.options task.old)) → self.new.worst ≡ Verdict.Clean → (self.old.worst ≡ Verdict.Clean) × (outputs.new.faults ≡ outputs.old.faults) }
-        ensures answered { EndsAt (C.effects (C.options task.old)) (File name.now)
+        ensures answered { EndsAt (C.effects (C.options task.old)) (request_of asked.entry)
             (run_state_at W.contents F.contents outputs.old (H.state host.old) self.old.worst)
             (run_state_at W.contents F.contents outputs.new (H.state host.new) self.new.worst) result }
     {
-        let verdict = self.serve(name, host, task)?;
+        let verdict = self.serve(asked, host, task)?;
         self.report_result(verdict, outputs)?;
         Ok(())
     }
 
-    /// Reads a file of the host, and lets the task put the result into the buffer.
-    #[tactic(auto, using(crate::proofs::Serving::serves_read, crate::proofs::Serving::halts_read, crate::proofs::Serving::ends_unread))]
+    /// Reads a file of the host, if one is asked for, and lets the task put the result into the
+    /// buffer.
+    #[tactic(auto, using(crate::proofs::Serving::serves_read, crate::proofs::Serving::halts_read, crate::proofs::Serving::ends_unread, crate::proofs::Serving::ends_no_file))]
     fn serve<H: Host, C: FileTask>(
         &mut self,
-        name: &str,
+        asked: Asked<'_>,
         host: &mut H,
         task: &mut C,
     ) -> Result<Verdict, StreamFault>
         ensures options { C.options task.new ≡ C.options task.old }
         ensures worst { self.new.worst ≡ self.old.worst }
         ensures quiet { IfOk result (λ verdict. KeepsQuiet (C.effects (C.options task.old)) → verdict ≡ Verdict.Clean → self.new.buffer.complaint.items ≡ []) }
-        ensures served { EndsServing (C.effects (C.options task.old)) (File name.now) (H.state host.old) (H.state host.new)
+        ensures served { EndsServing (C.effects (C.options task.old)) (request_of asked.entry) (H.state host.old) (H.state host.new)
             (answer_of self.new.buffer.printed.items self.new.buffer.complaint.items) result }
     {
+        let name = match asked {
+            Asked::File(name) => name,
+            Asked::NoFile { shown, reason } => {
+                return self.serve_unread(shown, Some(reason), host, task);
+            }
+        };
         match host.fill(name, FILE_BYTES, &mut self.bytes) {
             Ok(()) => {
                 let bytes = Some(self.bytes.as_slice());
@@ -139,28 +141,6 @@ impl Batch {
         Ok(verdict)
     }
 
-    /// Processes a name that cannot be a file's.
-    #[tactic(auto, using(crate::proofs::Serving::serves_no_file, crate::proofs::Serving::halts_no_file))]
-    pub(crate) fn answer_no_file<H: Host, C: FileTask, W: Write, F: Write>(
-        &mut self,
-        name: NoFile<'_>,
-        host: &mut H,
-        task: &mut C,
-        outputs: &mut Outputs<'_, W, F>,
-    ) -> Result<(), StreamFault>
-        ensures same { SameWriters outputs.old outputs.new }
-        ensures options { C.options task.new ≡ C.options task.old }
-        ensures delivered { OnOk result (Delivers outputs.old.output outputs.new.output) }
-        ensures silent { KeepsQuiet (C.effects (C.options task.old)) → self.new.worst ≡ Verdict.Clean → (self.old.worst ≡ Verdict.Clean) × (outputs.new.faults ≡ outputs.old.faults) }
-        ensures answered { EndsAt (C.effects (C.options task.old)) (no_file name.entry.shown.now name.entry.reason)
-            (run_state_at W.contents F.contents outputs.old (H.state host.old) self.old.worst)
-            (run_state_at W.contents F.contents outputs.new (H.state host.new) self.new.worst) result }
-    {
-        let verdict = self.serve_unread(name.shown, Some(name.reason), host, task)?;
-        self.report_result(verdict, outputs)?;
-        Ok(())
-    }
-
     /// Processes files of the host, one after another. `Write` comes if the output fails, and no
     /// file is processed after that; a file that cannot be read stops nothing.
     pub fn answer_files<H: Host, C: FileTask, W: Write, F: Write>(
@@ -179,7 +159,7 @@ impl Batch {
             (run_state_at W.contents F.contents outputs.new (H.state host.new) self.new.worst) result }
     {
         for name in names {
-            self.answer_file(name.as_str(), host, task, outputs)?;
+            self.answer(Asked::File(name.as_str()), host, task, outputs)?;
         }
         Ok(())
     }

@@ -7,7 +7,7 @@ ghost use Rattle.program_batch.specs.Runs.{Runs, run_state_at};
 ghost use Rattle.program_batch.specs.Lists.{EndsList, HasComeTo, KeepsList, RunsStream, state_of, view_of};
 ghost use Rattle.program_console.specs.Console.{Delivers, SameWriters, StaysDelivered};
 
-use crate::batch::{Batch, NoFile};
+use crate::batch::Batch;
 use crate::open_name::OpenName;
 use crate::report::Verdict;
 use crate::task::FileTask;
@@ -32,7 +32,6 @@ impl ListBatch {
     /// Returns a batch for a list whose names end with this byte, of which no byte has come.
     pub fn new(batch: Batch, separator: u8) -> ListBatch
         ensures separator { result.separator ≡ separator }
-        ensures fresh { result.name ≡ [] }
         ensures worst { result.batch.worst ≡ batch.worst }
     {
         ListBatch {
@@ -67,7 +66,7 @@ impl ListBatch {
         ensures same { SameWriters outputs.old outputs.new }
         ensures delivered { OnOk result (Delivers outputs.old.output outputs.new.output) }
         ensures silent { KeepsQuiet (C.effects (C.options task.old)) → self.new.batch.worst ≡ Verdict.Clean → (self.old.batch.worst ≡ Verdict.Clean) × (outputs.new.faults ≡ outputs.old.faults) }
-        ensures answered { self.old.name ≡ [] → RunsStream (C.effects (C.options task.old)) self.old.separator (R.remaining input.old.reader.now) (R.remaining input.new.reader.now) input.new.has_failed
+        ensures answered { RunsStream (C.effects (C.options task.old)) self.old.separator (R.remaining input.old.reader.now) (R.remaining input.new.reader.now) input.new.has_failed
             (run_state_at W.contents F.contents outputs.old (H.state host.old) self.old.batch.worst)
             (run_state_at W.contents F.contents outputs.new (H.state host.new) self.new.batch.worst) result }
     {
@@ -96,20 +95,9 @@ impl ListBatch {
             (run_state_at W.contents F.contents outputs.old (H.state host.old) self.old.batch.worst)
             (run_state_at W.contents F.contents outputs.new (H.state host.new) self.new.batch.worst) result }
     {
-        if !self.name.is_name() {
-            return Ok(());
-        }
-        match self.name.file_name() {
-            Some(name) => self.batch.answer_file(name, host, task, outputs),
-            None => {
-                let reason = self.name.reason();
-                self.name.shorten();
-                let name = NoFile {
-                    shown: self.name.as_bytes(),
-                    reason,
-                };
-                self.batch.answer_no_file(name, host, task, outputs)
-            }
+        match self.name.asked() {
+            Some(asked) => self.batch.answer(asked, host, task, outputs),
+            None => Ok(()),
         }
     }
 }

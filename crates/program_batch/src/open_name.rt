@@ -1,7 +1,9 @@
 //! The name of a list that is being read.
-ghost use Rattle.std.specs.Prelude.{◌≡◌, ◌≤◌, ◌<◌, if◌then◌else◌, [], ◌∷◌, ◌++◌, length, take, MatchOption, true, false, ◌==◌};
-ghost use Rattle.program_batch.specs.Names.{is_file_name, is_name, name_reason, shortened_name};
+ghost use Rattle.std.specs.Prelude.{◌≡◌, ◌≤◌, [], ◌∷◌, ◌++◌, length, take, MatchOption};
+ghost use Rattle.program_batch.specs.Asked.{request_of};
+ghost use Rattle.program_batch.specs.Names.{requests_of};
 
+use crate::asked::Asked;
 use crate::reason::Reason;
 use arrayvec::ArrayVec;
 use std::marker::Model;
@@ -58,53 +60,30 @@ impl OpenName {
             .try_extend_from_slice(&bytes[..bytes.len().min(room)]);
     }
 
-    /// Whether a byte has come.
-    pub(crate) fn is_name(&self) -> bool
-        ensures { result ≡ is_name self.now }
+    /// Returns what the name asks for, or None if no byte has come. A name that is not UTF-8, or
+    /// has more than 4,096 bytes, cannot be a file's; of one that is too long the first 64 bytes and
+    /// two full stops are shown, and it is not kept.
+    pub(crate) fn asked(&mut self) -> Option<Asked<'_>>
+        ensures { MatchOption result (requests_of self.old ≡ []) (λ asked. requests_of self.old ≡ request_of asked ∷ []) }
     {
-        !self.bytes.is_empty()
-    }
-
-    /// Returns the name as a file's, or None if it cannot be a file's: it is not UTF-8, or has more
-    /// than 4,096 bytes.
-    pub(crate) fn file_name(&self) -> Option<&str>
-        ensures { MatchOption result (is_file_name self.now ≡ false) (λ name. (is_file_name self.now ≡ true) × (name.now ≡ self.now)) }
-    {
-        if self.bytes.len() > NAME_BYTES {
+        if self.bytes.is_empty() {
             return None;
         }
-        match str::from_utf8(self.bytes.as_slice()) {
-            Ok(name) => Some(name),
-            Err(_) => None,
-        }
-    }
-
-    /// Returns why the name cannot be a file's; only meant for such a name.
-    pub(crate) fn reason(&self) -> Reason
-        ensures { result ≡ name_reason self.now }
-    {
-        if self.bytes.len() > NAME_BYTES {
-            Reason::LongName
-        } else {
-            Reason::NotUtf8
-        }
-    }
-
-    /// Keeps only what is shown of the name: all of it, or the first 64 bytes and two full stops if
-    /// it is too long.
-    pub(crate) fn shorten(&mut self)
-        ensures { self.new ≡ shortened_name self.old }
-    {
         if self.bytes.len() > NAME_BYTES {
             self.bytes.truncate(SHOWN_BYTES);
             let _ = self.bytes.try_extend_from_slice(b"..");
+            return Some(Asked::NoFile {
+                shown: self.bytes.as_slice(),
+                reason: Reason::LongName,
+            });
         }
-    }
-
-    /// Returns the bytes of the name.
-    pub(crate) fn as_bytes(&self) -> &[u8]
-        ensures { result.now ≡ self.now }
-    {
-        self.bytes.as_slice()
+        let bytes = self.bytes.as_slice();
+        match str::from_utf8(bytes) {
+            Ok(name) => Some(Asked::File(name)),
+            Err(_) => Some(Asked::NoFile {
+                shown: bytes,
+                reason: Reason::NotUtf8,
+            }),
+        }
     }
 }

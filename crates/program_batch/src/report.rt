@@ -1,6 +1,6 @@
-//! `Report`: what is printed of a file, and its verdict.
-ghost use Rattle.std.specs.Prelude.{◌≡◌, [], IfOk, OnOk, List, ℕ, Option, option_map};
-ghost use Rattle.program_batch.specs.Answers.{Answer, IsQuiet, worse_verdict, status_of};
+//! `ReportBuffer` and `Verdict`: what is printed of a file, and how good it is.
+ghost use Rattle.std.specs.Prelude.{◌≡◌, []};
+ghost use Rattle.program_batch.specs.Answers.{worse_verdict, status_of};
 
 use std::alloc::{AllocError, Global};
 
@@ -68,34 +68,4 @@ impl ReportBuffer {
         self.printed.clear();
         self.complaint.clear();
     }
-}
-
-/// What a command prints of a file, by its name and its bytes. It is the same whatever was printed
-/// before.
-pub trait Report {
-    // The rule that it follows.
-    ghost rule: { Self → List ℕ → Option (List ℕ) → Answer };
-
-    // What is printed before the first result.
-    ghost heading: { Self → List ℕ };
-
-    /// Writes the heading, which is printed before the first result, into the buffer.
-    fn head(&mut self, buffer: &mut ReportBuffer) -> Result<(), AllocError>
-        ensures same { rule self.new ≡ rule self.old }
-        ensures heading { OnOk result (buffer.new.printed.items ≡ heading self.old) };
-
-    /// Replaces the buffer's contents by what is printed of the file shown by `name`, with these
-    /// bytes (None if it cannot be read).
-    fn answer(
-        &mut self,
-        name: &[u8],
-        bytes: Option<&[u8]>,
-        buffer: &mut ReportBuffer,
-    ) -> Result<Verdict, AllocError>
-        ensures same { rule self.new ≡ rule self.old }
-        ensures answered { IfOk result (λ verdict. record { printed = buffer.new.printed.items; complaint = buffer.new.complaint.items; verdict = verdict }
-            ≡ rule self.old name.now (option_map (λ bytes. bytes.now) bytes.entry)) };
-
-    // A clean result has no complaint.
-    ghost quiet: { (report : Self) → IsQuiet (rule report) };
 }

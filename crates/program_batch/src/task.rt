@@ -1,13 +1,13 @@
 //! `FileTask`: what is done with each file of a run, if the host may change, and what is printed.
 ghost use Rattle.std.specs.Prelude.{◌≡◌, IfOk, OnErr, OnOk, List, ℕ, option_map};
-ghost use Rattle.program_batch.specs.Answers.{Effects, Rule, answer_of, by_rule};
+ghost use Rattle.program_batch.specs.Answers.{Effects, answer_of};
 
-use crate::report::{Report, ReportBuffer, Verdict};
+use crate::report::{ReportBuffer, Verdict};
 use host_storage::Host;
 use std::alloc::AllocError;
 
 /// A task that is done for one file after another. It may change the host: make files, and look at
-/// what is there. A `Report` is a task that leaves the host as it is.
+/// what is there.
 pub trait FileTask {
     // The options that it was given, which never change.
     ghost Options: { Type 0 };
@@ -39,28 +39,4 @@ pub trait FileTask {
         ensures done { IfOk result (λ verdict. (effects (options self.old)).does name.now (option_map (λ bytes. bytes.now) bytes.entry) (H.state host.old)
             (answer_of buffer.new.printed.items buffer.new.complaint.items verdict) (H.state host.new)) }
         ensures halted { OnErr result ((effects (options self.old)).halts name.now (option_map (λ bytes. bytes.now) bytes.entry) (H.state host.old) (H.state host.new)) };
-}
-
-impl<P: Report> FileTask for P {
-    ghost Options = { Rule };
-
-    ghost options = { λ report. P.rule report };
-
-    ghost effects = { by_rule };
-
-    ghost heading = { λ report. P.heading report };
-
-    fn head(&mut self, buffer: &mut ReportBuffer) -> Result<(), AllocError> {
-        Report::head(self, buffer)
-    }
-
-    fn answer<H: Host>(
-        &mut self,
-        name: &[u8],
-        bytes: Option<&[u8]>,
-        _host: &mut H,
-        buffer: &mut ReportBuffer,
-    ) -> Result<Verdict, AllocError> {
-        Report::answer(self, name, bytes, buffer)
-    }
 }

@@ -1,2 +1,1 @@
 pub mod Printings
-pub mod Quiet

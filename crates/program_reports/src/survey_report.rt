@@ -1,12 +1,13 @@
 //! `SurveyReport`: the report of a survey, by a printer.
 ghost use Rattle.std.specs.Prelude.{◌≡◌, IfOk};
+ghost use Rattle.program_batch.specs.Answers.{Rule, by_rule};
 ghost use Rattle.program_reports.specs.Printings.{survey_rule};
-ghost use Rattle.program_reports.specs.Quiet.{survey_rule-is_quiet};
 
 use crate::dump_buffer::DumpBuffer;
 use crate::printer::Printer;
+use host_storage::Host;
 use out_messages::{unread_line, wrong_length_line};
-use program_batch::{Report, ReportBuffer, Verdict};
+use program_batch::{FileTask, ReportBuffer, Verdict};
 use std::alloc::{AllocError, Global};
 use std::mem;
 
@@ -35,12 +36,14 @@ impl<P: Printer + Drop> SurveyReport<P> {
     }
 }
 
-impl<P: Printer + Drop> Report for SurveyReport<P> {
-    ghost rule = { λ report. survey_rule (P.printing report.printer) };
+impl<P: Printer + Drop> FileTask for SurveyReport<P> {
+    ghost Options = { Rule };
+
+    ghost options = { λ report. survey_rule (P.printing report.printer) };
+
+    ghost effects = { by_rule };
 
     ghost heading = { λ report. (P.printing report.printer).heading };
-
-    ghost quiet = { λ report. survey_rule-is_quiet (P.printing report.printer) };
 
     fn head(&mut self, buffer: &mut ReportBuffer) -> Result<(), AllocError> {
         buffer.clear();
@@ -49,10 +52,11 @@ impl<P: Printer + Drop> Report for SurveyReport<P> {
         Ok(())
     }
 
-    fn answer(
+    fn answer<H: Host>(
         &mut self,
         name: &[u8],
         bytes: Option<&[u8]>,
+        _host: &mut H,
         buffer: &mut ReportBuffer,
     ) -> Result<Verdict, AllocError> {
         buffer.clear();

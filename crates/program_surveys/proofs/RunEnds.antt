@@ -1,15 +1,10 @@
 -- How a run without a list has ended, by how it was reported.
-use Rattle.std.proofs.Common.{◌≡◌, ℕ, Result, Ok, Err, IsOk, OnOk, subst}
+use Rattle.std.proofs.Common.{◌≡◌, ℕ, Result, subst}
 use Rattle.program_batch.specs.Runs.{RunState}
 use Rattle.program_batch.specs.declared.report.Verdict.{Verdict}
 use Rattle.program_console.specs.Outside.{Outside}
 use Rattle.program_console.specs.declared.stream_fault.StreamFault.{StreamFault}
 use Rattle.program_surveys.specs.JobEnds.{EndedRun, ReportsRun, first_state}
-
--- what holds after a run that came to its end holds if this one did
-pub of_ok : {T E : Type 0} (result : Result T E) (P : Type 0) → IsOk result → OnOk result P → P
-of_ok (Ok done) P is holds = holds
-of_ok (Err fault) P is holds = cc
 
 -- a run that began with a clean verdict has ended as it was reported
 pub run_ended : (Runs : RunState → RunState → Result (Unit {0}) StreamFault → Type 0) (old new : Outside) (status : ℕ) (ended : Result (Unit {0}) StreamFault) (first last : RunState) (worst : Verdict)

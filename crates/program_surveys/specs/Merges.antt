@@ -1,5 +1,5 @@
 -- How a merge of files ends.
-use Rattle.std.specs.Prelude.{◌≡◌, ◌⊎◌, ℕ, Bool, List, [], ◌∷◌, MatchBool, Option, Result, Ok, Err}
+use Rattle.std.specs.Prelude.{◌≡◌, ◌⊎◌, ℕ, Bool, List, [], ◌∷◌, MatchBool, Result, Ok, Err}
 use Rattle.host_storage.specs.Files.{HostState}
 use Rattle.host_storage.specs.Folders.{Looks}
 use Rattle.host_storage.specs.declared.host.FolderFault.{FolderFault}

@@ -9,10 +9,11 @@
 mod difference_job;
 mod file_names;
 mod merge_job;
-mod run_end;
 mod survey_job;
+mod whole_task;
 
 pub use difference_job::DifferenceJob;
 pub use file_names::FileNames;
 pub use merge_job::MergeJob;
 pub use survey_job::SurveyJob;
+pub use whole_task::{WholeTask, run_whole};

@@ -1,20 +1,17 @@
 //! The run of `merge`: one file, made of the dumps of several files.
-ghost use Rattle.std.specs.Prelude.{◌≡◌, ◌≤◌, IfErr, IfOk, OnOk, [], ◌∷◌, map, string_bytes, false};
+ghost use Rattle.std.specs.Prelude.{◌≡◌, IfErr, IfOk, OnOk, [], map, string_bytes};
 ghost use Rattle.program_batch.specs.Answers.{answer_of};
-ghost use Rattle.program_batch.specs.Runs.{run_state_at};
 ghost use Rattle.program_batch.specs.declared.report.Verdict.TheVariants.{Clean};
-ghost use Rattle.program_surveys.specs.Merges.{AnswersMerge, CameSoFar, EndedMerge, Merges, ReadsFiles};
-ghost use Rattle.program_console.specs.Console.{Delivers, IsDelivered, SameStreams, SameWriters};
-ghost use Rattle.program_console.specs.Outside.{outside_at};
+ghost use Rattle.program_surveys.specs.Merges.{AnswersMerge, CameSoFar, Merges, ReadsFiles};
 
 use crate::difference_job::read_contents;
-use crate::run_end::report_end;
+use crate::whole_task::WholeTask;
 use cmd_merge::{Readings, Setup, finish, say_present};
 use host_storage::Host;
 use program_batch::{Batch, ReportBuffer, Verdict};
-use program_console::{Console, Outputs, StreamFault};
+use program_console::{Outputs, StreamFault};
 use std::alloc::Global;
-use std::io::{Read, Write};
+use std::io::Write;
 
 /// A merge of the dumps of files.
 #[derive(Drop)]
@@ -29,48 +26,6 @@ impl<'n> MergeJob<'n> {
         ensures { result.setup.now ≡ setup.now }
     {
         MergeJob { alloc, setup }
-    }
-
-    /// Reads all files, makes the file of their merged dump, prints what became of its blocks, and
-    /// returns the exit status: 1 if a block is lost, taken from the first good copy, or in
-    /// conflict; 2 if the file is there already or cannot be made, one of the others is no dump or
-    /// cannot be read, the output takes no more bytes, or memory runs out; and else 0.
-    pub fn run<R: Read, W: Write, F: Write, H: Host>(
-        &self,
-        console: &mut Console<'_, R, W, F>,
-        host: &mut H,
-    ) -> u8
-        requires unfailed { console.old.outputs.output.has_failed ≡ false }
-        ensures same { SameStreams console.old console.new }
-        ensures status { result ≤ 2 }
-        ensures ended { EndedMerge self.now.setup.now
-            (outside_at R.remaining W.contents F.contents console.old (H.state host.old))
-            (outside_at R.remaining W.contents F.contents console.new (H.state host.new)) result }
-        ensures delivered { result ≡ 0 → IsDelivered console.new.outputs.output }
-        ensures silent { result ≡ 0 → console.new.outputs.faults ≡ console.old.outputs.faults }
-    {
-        let mut batch = Batch::new(self.alloc);
-        let ended = self.merge(&mut batch, &mut console.outputs, host);
-        report_end(ended, batch.worst(), &mut console.outputs.faults)
-    }
-
-    /// Merges the files, and writes the result.
-    fn merge<W: Write, F: Write, H: Host>(
-        &self,
-        batch: &mut Batch,
-        outputs: &mut Outputs<'_, W, F>,
-        host: &mut H,
-    ) -> Result<(), StreamFault>
-        ensures same { SameWriters outputs.old outputs.new }
-        ensures delivered { OnOk result (Delivers outputs.old.output outputs.new.output) }
-        ensures silent { batch.new.worst ≡ Clean → outputs.new.faults ≡ outputs.old.faults }
-        ensures merged { Merges self.now.setup.now
-            (run_state_at W.contents F.contents outputs.old (H.state host.old) batch.old.worst)
-            (run_state_at W.contents F.contents outputs.new (H.state host.new) batch.new.worst) result }
-    {
-        let verdict = self.answer(&mut batch.buffer, host)?;
-        batch.report_result(verdict, outputs)?;
-        Ok(())
     }
 
     /// Merges the files, unless the one that is to be made is there already, and replaces the
@@ -110,26 +65,30 @@ impl<'n> MergeJob<'n> {
         ensures files { (H.state host.new).files ≡ (H.state host.old).files }
         ensures memory { IfErr result (λ fault. fault ≡ StreamFault.Memory) }
     {
+        let setup = self.setup;
         for name in names {
-            self.read_one(name, readings, host)?;
+            let contents = read_contents(self.alloc, name, host)?;
+            readings.add(setup.form, name.as_bytes(), contents)?;
         }
         Ok(())
     }
+}
 
-    /// Reads the file with this name.
-    fn read_one<H: Host>(
+/// A merge reads all files, makes the file of their merged dump, and prints what became of its
+/// blocks. It is amiss if a block is lost, taken from the first good copy, or in conflict, and has
+/// failed if the file is there already or cannot be made, or one of the others is no dump or cannot
+/// be read.
+impl<'n> WholeTask for MergeJob<'n> {
+    ghost ends = { λ job. Merges job.setup.now };
+
+    fn process<W: Write, F: Write, H: Host>(
         &self,
-        name: &String,
-        readings: &mut Readings,
+        batch: &mut Batch,
+        outputs: &mut Outputs<'_, W, F>,
         host: &mut H,
-    ) -> Result<(), StreamFault>
-        ensures read { OnOk result (ReadsFiles self.now.setup.now.form (string_bytes name.now ∷ []) (H.state host.old) readings.old (H.state host.new) readings.new) }
-        ensures files { (H.state host.new).files ≡ (H.state host.old).files }
-        ensures memory { IfErr result (λ fault. fault ≡ StreamFault.Memory) }
-    {
-        let setup = self.setup;
-        let contents = read_contents(self.alloc, name, host)?;
-        readings.add(setup.form, name.as_bytes(), contents)?;
+    ) -> Result<(), StreamFault> {
+        let verdict = self.answer(&mut batch.buffer, host)?;
+        batch.report_result(verdict, outputs)?;
         Ok(())
     }
 }

@@ -1,7 +1,7 @@
 //! The run of a survey: a report on each file that the arguments or a list name.
 ghost use Rattle.std.specs.Prelude.{◌≡◌, ◌≤◌, ℕ, List, [], Err, IfErr, IfOk, Ok, OnOk, Result, true};
 ghost use Rattle.host_storage.specs.declared.host.HostFault.{HostFault};
-ghost use Rattle.program_batch.specs.Answers.{KeepsQuiet, Rule, by_rule};
+ghost use Rattle.program_batch.specs.Answers.{KeepsQuiet};
 ghost use Rattle.program_batch.specs.Reasons.{with_known_reason};
 ghost use Rattle.out_messages.specs.FaultLines.{unread_line};
 ghost use Rattle.program_batch.specs.Runs.{run_state_at};
@@ -16,9 +16,7 @@ ghost use Rattle.program_batch.specs.declared.report.Verdict.{Verdict};
 use crate::file_names::FileNames;
 use host_storage::{Host, HostFault};
 use out_messages::unread_line;
-use program_batch::{
-    Batch, FileTask, ListBatch, Reason, Report, Verdict, push_known_reason, reason_of,
-};
+use program_batch::{Batch, FileTask, ListBatch, Reason, Verdict, push_known_reason, reason_of};
 use program_console::{Console, Outputs, StreamFault};
 use program_exit::{NOT_RUN, ProgramFault};
 use script_text::input::InputStream;
@@ -71,7 +69,7 @@ fn answer_list_file<H: Host, C: FileTask, W: Write, F: Write>(
     ensures same { SameWriters outputs.old outputs.new }
     ensures delivered { OnOk result (Delivers outputs.old.output outputs.new.output) }
     ensures silent { KeepsQuiet (C.effects (C.options task.old)) → batch.new.batch.worst ≡ Verdict.Clean → (batch.old.batch.worst ≡ Verdict.Clean) × (outputs.new.faults ≡ outputs.old.faults) }
-    ensures answered { batch.old.name ≡ [] → RunsListFile (C.effects (C.options task.old)) batch.old.separator list.now
+    ensures answered { RunsListFile (C.effects (C.options task.old)) batch.old.separator list.now
         (run_state_at W.contents F.contents outputs.old (H.state host.old) batch.old.batch.worst)
         (run_state_at W.contents F.contents outputs.new (H.state host.new) batch.new.batch.worst) result }
 {
@@ -117,32 +115,10 @@ impl<'n> SurveyJob<'n> {
         SurveyJob { alloc, names }
     }
 
-    /// Processes the files by a report, unless memory ran out while it was made, and returns the
-    /// exit status: that of the worst verdict, or 2 if the list cannot be read, the output takes no
-    /// more bytes, or memory runs out.
-    pub fn run<R: Read, W: Write, F: Write, H: Host, P: Report + Drop>(
-        &self,
-        report: Result<P, AllocError>,
-        console: &mut Console<'_, R, W, F>,
-        host: &mut H,
-    ) -> u8
-        requires fresh { IsFresh console.old }
-        ensures same { SameStreams console.old console.new }
-        ensures status { result ≤ 2 }
-        ensures delivered { result ≡ 0 → IsDelivered console.new.outputs.output }
-        ensures silent { result ≡ 0 → console.new.outputs.faults ≡ console.old.outputs.faults }
-        ensures ended { (rule : Rule) (heading : List ℕ) → IfOk report (λ report. (P.rule report ≡ rule) × (P.heading report ≡ heading))
-            → EndedSurvey (by_rule rule) heading (files_in self.now.names)
-            (outside_at R.remaining W.contents F.contents console.old (H.state host.old))
-            (outside_at R.remaining W.contents F.contents console.new (H.state host.new)) result }
-    {
-        self.run_by(report, console, host)
-    }
-
     /// Processes the files by a task, unless memory ran out while it was made, and returns the exit
     /// status: that of the worst verdict, or 2 if the list cannot be read, the output takes no more
     /// bytes, or memory runs out.
-    pub fn run_by<R: Read, W: Write, F: Write, H: Host, C: FileTask + Drop>(
+    pub fn run<R: Read, W: Write, F: Write, H: Host, C: FileTask + Drop>(
         &self,
         task: Result<C, AllocError>,
         console: &mut Console<'_, R, W, F>,
@@ -206,8 +182,8 @@ impl<'n> SurveyJob<'n> {
         }
     }
 
-    /// Reports the fault of a run, and returns the exit status. If a write fails, the rest of the
-    /// line is dropped.
+    /// Reports the fault of a run, and returns the exit status. If the list cannot be read, it says
+    /// why, if that is known. If a write fails, the rest of the line is dropped.
     fn report_fault<H: Host, F: Write>(
         &self,
         fault: StreamFault,
@@ -219,25 +195,13 @@ impl<'n> SurveyJob<'n> {
         ensures reported { ReportsFault (H.state host.now).files (list_name (files_in self.now.names)) fault (account_at F.contents faults.old) (account_at F.contents faults.new) result }
     {
         match fault {
-            StreamFault::Read => self.report_list(self.names.list_name(), host, faults),
-            StreamFault::Write => ProgramFault::Write.report_on(faults),
-            StreamFault::Memory => ProgramFault::Memory.report_on(faults),
+            StreamFault::Read => {}
+            StreamFault::Write => return ProgramFault::Write.report_on(faults),
+            StreamFault::Memory => return ProgramFault::Memory.report_on(faults),
         }
-    }
-
-    /// Reports that a list cannot be read, and why, if that is known.
-    fn report_list<H: Host, F: Write>(
-        &self,
-        list: &str,
-        host: &H,
-        faults: &mut OutputStream<'_, F>,
-    ) -> u8
-        ensures faults { faults.new.writer.ghost_name ≡ faults.old.writer.ghost_name }
-        ensures status { result ≡ 2 }
-        ensures reported { ReportsFault (H.state host.now).files list.now StreamFault.Read (account_at F.contents faults.old) (account_at F.contents faults.new) result }
-    {
-        let mut line = Vec::new(self.alloc);
+        let list = self.names.list_name();
         let reason = reason_of_list(list, host);
+        let mut line = Vec::new(self.alloc);
         match push_unread_list(&mut line, list, reason) {
             Ok(()) => {
                 let _ = faults.write(line.as_slice());

@@ -7,11 +7,11 @@ use Rattle.d64_shell.proofs.entry.program.Goals as goal
 -- failed
 pub returns-clause-ended : goal.returns-clause-ended
 returns-clause-ended g c = (
-  reading_of c.program_on.new.console.input.reads c.program_on.new.console.input.came c.program_on.new.console.input.has_failed,
-  c.program_on.new.console.outputs.output.has_failed,
-  c.program_on.new.console.outputs.faults.has_failed,
+  reading_of c.run.new.console.input.reads c.run.new.console.input.came c.run.new.console.input.has_failed,
+  c.run.new.console.outputs.output.has_failed,
+  c.run.new.console.outputs.faults.has_failed,
   Ended-streams _ _ _ _ _ _ _ _ _ _ _ _ _ _
       (outside_is _ (g.R.Read.remaining c.args.reader.now) _ (g.W.Write.contents c.args.writer.now) _ (g.F.Write.contents c.args.faults.now) _ (reading_of 0 0 false) _ false _ false (g.H.Host.state c.args.host.now)
       (search rules) (search rules) (search rules) (search rules) (search rules) (search rules))
-      (search rules) (search rules) (search rules) c.program_on.ensures.ended,
+      (search rules) (search rules) (search rules) c.run.ensures.ended,
 )

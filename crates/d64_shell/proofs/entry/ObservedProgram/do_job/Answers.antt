@@ -1,11 +1,14 @@
 -- A script and a survey have ended as the work of their job says.
-use Rattle.std.proofs.Common.{◌≡◌, ℕ, List, Option, inr, map, option_copied, option_map, rules, ap, ap₂}
+use Rattle.std.proofs.Common.{◌≡◌, ℕ, List, Option, inr, map, option_copied, option_map, rules, ap, ap₂, ◌∙◌}
 use Rattle.script_text.specs.Input.{reading_of}
-use Rattle.cmd_check.specs.Check.{check_rule, heading_of as check_heading}
-use Rattle.cmd_files.specs.Files.{files_rule, heading_of as files_heading}
+use Rattle.std.proofs.lemmas.Result.{IfOk-weaker}
+use Rattle.cmd_check.specs.Check.{check_printing, check_rule, heading_of as check_heading}
+use Rattle.cmd_files.specs.Files.{files_printing, files_rule, heading_of as files_heading}
 use Rattle.cmd_files.specs.Extracts.{extract_heading}
-use Rattle.cmd_map.specs.Pictures.{map_rule}
-use Rattle.cmd_catalogue.specs.Catalogue.{catalogue_rule, catalogue_heading}
+use Rattle.cmd_map.specs.Pictures.{map_printing, map_rule}
+use Rattle.cmd_catalogue.specs.Catalogue.{catalogue_printing, catalogue_rule, catalogue_heading}
+use Rattle.cmd_catalogue.specs.declared.catalogue_printer.CataloguePrinter.{CataloguePrinter}
+use Rattle.cmd_check.specs.declared.check_printer.CheckPrinter.{CheckPrinter}
 use Rattle.std.specs.Prelude.{[], ◌∷◌, string_bytes}
 use Rattle.script_run.specs.Transcript.{RunOptions}
 use Rattle.script_run.specs.declared.run_options.Refusals.{Refusals}
@@ -13,7 +16,7 @@ use Rattle.cmd_shell.specs.Beginnings.{beginning_of, home_of, refusals_of, sourc
 use Rattle.d64_shell.specs.Jobs.{form_of, setup_of, work_of}
 use Rattle.program_surveys.specs.SurveyFiles.{Named, files_in, files_of}
 use Rattle.program_console.specs.Outside.{account_at, outside_at, outside_of}
-use Rattle.d64_shell.proofs.JobEnds.{extraction_ended, extraction_is_quiet, reports_after, script_ended, survey_ended}
+use Rattle.d64_shell.proofs.JobEnds.{extraction_ended, extraction_is_quiet, report_is_quiet, reports_after, script_ended, survey_ended}
 use Rattle.cmd_shell.proofs.ShellRuns.{due_reported, stopped_reported}
 use Rattle.d64_shell.proofs.entry.ObservedProgram.do_job.Goals as goal
 
@@ -54,7 +57,13 @@ returns-in-Check-clause-ended g c =
     survey_ended c.args.job (check_rule c.in-Check.format c.in-Check.digest) (check_heading c.in-Check.format c.in-Check.digest) (files_of c.in-Check.names) (files_in c.new.result.names)
     _ _ c.run-in-Check.result
     (ap work_of c.in-Check.is) (search rules)
-    (c.run-in-Check.ensures.ended (check_rule c.in-Check.format c.in-Check.digest) (check_heading c.in-Check.format c.in-Check.digest) (search rules))
+    (c.run-in-Check.ensures.ended (check_rule c.in-Check.format c.in-Check.digest) (check_heading c.in-Check.format c.in-Check.digest)
+    (IfOk-weaker c.new-report.result _ _ (λ report is.
+    let form = ap (λ (p : CheckPrinter). p.form) is ∙ c.new-printer.ensures.form in
+    let digest = ap (λ (p : CheckPrinter). p.has_digest) is ∙ c.new-printer.ensures.digest in (ap₂ check_rule form digest, ap₂ check_heading form digest)) c.new-report.ensures))
+
+pub returns-in-Check-clause-silent : goal.returns-in-Check-clause-silent
+returns-in-Check-clause-silent g c = λ passes is. c.run-in-Check.ensures.silent (report_is_quiet c.new-report.result (λ report. check_printing report.printer.form report.printer.has_digest)) is
 
 pub returns-in-Files-clause-ended : goal.returns-in-Files-clause-ended
 returns-in-Files-clause-ended g c =
@@ -63,6 +72,9 @@ returns-in-Files-clause-ended g c =
     (ap work_of c.in-Files.is) (search rules)
     (c.run-in-Files.ensures.ended (files_rule (form_of c.in-Files.format c.in-Files.leftovers)) (files_heading (form_of c.in-Files.format c.in-Files.leftovers)) (search rules))
 
+pub returns-in-Files-clause-silent : goal.returns-in-Files-clause-silent
+returns-in-Files-clause-silent g c = λ passes is. c.run-in-Files.ensures.silent (report_is_quiet c.new-report-in-Files.result (λ report. files_printing report.printer.form)) is
+
 pub returns-in-Map-clause-ended : goal.returns-in-Map-clause-ended
 returns-in-Map-clause-ended g c =
     survey_ended c.args.job (map_rule c.in-Map.format) [] (Named (string_bytes c.in-Map.file ∷ [])) (files_in c.new-in-Map.result.names)
@@ -70,21 +82,29 @@ returns-in-Map-clause-ended g c =
     (ap work_of c.in-Map.is) (search rules)
     (c.run-in-Map.ensures.ended (map_rule c.in-Map.format) [] (search rules))
 
+pub returns-in-Map-clause-silent : goal.returns-in-Map-clause-silent
+returns-in-Map-clause-silent g c = λ passes is. c.run-in-Map.ensures.silent (report_is_quiet c.new-report-in-Map.result (λ report. map_printing report.printer.form)) is
+
 pub returns-in-Catalogue-clause-ended : goal.returns-in-Catalogue-clause-ended
 returns-in-Catalogue-clause-ended g c =
     survey_ended c.args.job (catalogue_rule c.in-Catalogue.page) (catalogue_heading c.in-Catalogue.page) (files_of c.in-Catalogue.names) (files_in c.new-in-Catalogue.result.names)
     _ _ c.run-in-Catalogue.result
     (ap work_of c.in-Catalogue.is) (search rules)
-    (c.run-in-Catalogue.ensures.ended (catalogue_rule c.in-Catalogue.page) (catalogue_heading c.in-Catalogue.page) (search rules))
+    (c.run-in-Catalogue.ensures.ended (catalogue_rule c.in-Catalogue.page) (catalogue_heading c.in-Catalogue.page)
+    (IfOk-weaker c.new-report-in-Catalogue.result _ _ (λ report is.
+    let page = ap (λ (p : CataloguePrinter). p.page) is ∙ c.new-printer-in-Catalogue.ensures in (ap catalogue_rule page, ap catalogue_heading page)) c.new-report-in-Catalogue.ensures))
+
+pub returns-in-Catalogue-clause-silent : goal.returns-in-Catalogue-clause-silent
+returns-in-Catalogue-clause-silent g c = λ passes is. c.run-in-Catalogue.ensures.silent (report_is_quiet c.new-report-in-Catalogue.result (λ report. catalogue_printing report.printer.page)) is
 
 pub returns-in-Extract-clause-ended : goal.returns-in-Extract-clause-ended
 returns-in-Extract-clause-ended g c =
     extraction_ended c.args.job (setup_of c.in-Extract.extraction (form_of c.in-Extract.format c.in-Extract.leftovers)) (extract_heading (form_of c.in-Extract.format c.in-Extract.leftovers)) (files_of c.in-Extract.names) (files_in c.new-in-Extract.result.names)
-    _ _ c.run_by.result
+    _ _ c.run-in-Extract.result
     (ap work_of c.in-Extract.is) (search rules)
-    (c.run_by.ensures.ended (setup_of c.in-Extract.extraction (form_of c.in-Extract.format c.in-Extract.leftovers)) (extract_heading (form_of c.in-Extract.format c.in-Extract.leftovers)) (search rules))
+    (c.run-in-Extract.ensures.ended (setup_of c.in-Extract.extraction (form_of c.in-Extract.format c.in-Extract.leftovers)) (extract_heading (form_of c.in-Extract.format c.in-Extract.leftovers)) (search rules))
 
 pub returns-in-Extract-clause-silent : goal.returns-in-Extract-clause-silent
 returns-in-Extract-clause-silent g c = λ passes is.
-    c.run_by.ensures.silent (extraction_is_quiet c.args.job (setup_of c.in-Extract.extraction (form_of c.in-Extract.format c.in-Extract.leftovers)) (extract_heading (form_of c.in-Extract.format c.in-Extract.leftovers)) (files_of c.in-Extract.names) c.new-task.result
+    c.run-in-Extract.ensures.silent (extraction_is_quiet c.args.job (setup_of c.in-Extract.extraction (form_of c.in-Extract.format c.in-Extract.leftovers)) (extract_heading (form_of c.in-Extract.format c.in-Extract.leftovers)) (files_of c.in-Extract.names) c.new-task.result
     (ap work_of c.in-Extract.is) (search rules) passes) is

@@ -21,14 +21,14 @@ loop-name-preserved g c =
       delivered = search rules;
       silent = search rules;
       answered = Steps-next _ _ (λ name. File (string_bytes name)) c.args.names.now c.loop-name.name-index c.name-item.result _ _ _ _ c.loop-name-test.true c.name-item.is
-          i.answered (ap g.C.FileTask.effects i.options) (ap File c.as_str.ensures.value) c.in_ok-answer_file.ensures.answered;
+          i.answered (ap g.C.FileTask.effects i.options) (ap File c.as_str.ensures.value) c.in_ok-answer.ensures.answered;
     }
 
-pub returns-in_err-answer_file-clause-answered : goal.returns-in_err-answer_file-clause-answered
-returns-in_err-answer_file-clause-answered g c =
+pub returns-in_err-answer-clause-answered : goal.returns-in_err-answer-clause-answered
+returns-in_err-answer-clause-answered g c =
     let i = c.loop-name.invariant in
-    Runs-stopped _ _ (λ name. File (string_bytes name)) c.args.names.now c.loop-name.name-index c.name-item.result _ c.in_err-answer_file.field-0.0 _ _ _ _ c.loop-name-test.true
-    c.name-item.is i.answered (ap g.C.FileTask.effects i.options) (ap File c.as_str.ensures.value) c.in_err-answer_file.ensures.answered (search rules)
+    Runs-stopped _ _ (λ name. File (string_bytes name)) c.args.names.now c.loop-name.name-index c.name-item.result _ c.in_err-answer.field-0.0 _ _ _ _ c.loop-name-test.true
+    c.name-item.is i.answered (ap g.C.FileTask.effects i.options) (ap File c.as_str.ensures.value) c.in_err-answer.ensures.answered (search rules)
 
 pub returns-clause-answered : goal.returns-clause-answered
 returns-clause-answered g c =

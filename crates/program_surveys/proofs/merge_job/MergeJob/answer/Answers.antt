@@ -1,5 +1,4 @@
-use Rattle.std.proofs.Common.{◌≡◌, Err, rules}
-use Rattle.program_console.specs.declared.stream_fault.StreamFault.TheVariants.{Memory}
+use Rattle.std.proofs.Common.{rules}
 use Rattle.program_surveys.proofs.MergeRuns.{so_far, wants_memory}
 use Rattle.program_surveys.proofs.merge_job.MergeJob.answer.Goals as goal
 

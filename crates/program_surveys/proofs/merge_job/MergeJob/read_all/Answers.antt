@@ -1,8 +1,8 @@
-use Rattle.std.proofs.Common.{◌≡◌, ◌∙◌, ◌∷◌, [], ℕ, List, map, drop, ap, sym, refl, rules}
+use Rattle.std.proofs.Common.{◌≡◌, refl, rules}
 use Rattle.std.specs.Prelude.{string_bytes}
-use Rattle.host_storage.specs.Files.{HostState}
-use Rattle.cmd_merge.specs.Reports.{ReadingsView}
-use Rattle.program_surveys.specs.Merges.{ReadsFiles}
+use Rattle.cmd_diff.specs.Differences.{Contents, contents_by}
+use Rattle.cmd_merge.specs.Reports.{with_file}
+use Rattle.program_surveys.specs.Comparisons.{IsReadAs}
 use Rattle.program_surveys.proofs.MergeRuns.{files_left, no_files_left}
 use Rattle.program_surveys.proofs.merge_job.MergeJob.read_all.Goals as goal
 
@@ -15,9 +15,13 @@ loop-name-init g c = record {
 pub loop-name-preserved : goal.loop-name-preserved
 loop-name-preserved g c =
     let i = c.loop-name.invariant in
+    let form = c.args.self.now.setup.now.form in
+    let contents : Contents = contents_by (λ bytes. bytes.items) c.in_ok-contents.contents in
+    let read : IsReadAs (string_bytes c.name-item.result) (g.H.Host.state c.loop-name.host) contents (g.H.Host.state c.read_contents.new.host) = search rules in
+    let added : c.add.new.self ≡ with_file form (string_bytes c.name-item.result) contents c.loop-name.readings = search rules in
     record {
-      read = λ new read rest. i.read new read
-          (files_left c.args.self.now.setup.now.form c.args.names.now c.loop-name.name-index c.name-item.result _ _ new _ _ read c.loop-name-test.true c.name-item.is c.in_ok-read_one.ensures.read rest);
+      read = λ new read_all rest. i.read new read_all
+          (files_left form c.args.names.now c.loop-name.name-index c.name-item.result contents _ _ new _ _ read_all c.loop-name-test.true c.name-item.is read added rest);
       files = search rules;
     }
 

@@ -30,7 +30,7 @@ returns-in_err-answer_stream-in-text-clause-surveyed g c =
       surveyed _ _ _ _ _ _ _ _ _ _ _ _ c.new-batch-in-Listed.result.batch.worst _ c.in_ok-begin.field-0 _ c.in_ok-begin.ensures.begun
           (c.new-batch-in-Listed.ensures.worst ∙ c.begin.ensures.worst ∙ c.new-batch.ensures) (ap g.C.FileTask.effects c.begin.ensures.options) (ap (account_at g.F.Write.contents) c.begin.ensures.silent)
           (over_input _ c.args.self.now.names c.in-Listed.list c.in-Listed.separator c.new-batch-in-Listed.result.separator _ _ _ _ _ _ c.in-Listed.is input
-          c.new-batch-in-Listed.ensures.separator (c.in_err-answer_stream-in-text.ensures.answered c.new-batch-in-Listed.ensures.fresh)),
+          c.new-batch-in-Listed.ensures.separator c.in_err-answer_stream-in-text.ensures.answered),
       search rules,
     )
 
@@ -42,7 +42,7 @@ returns-in-text-clause-surveyed g c =
       surveyed _ _ _ _ _ _ _ _ _ _ _ _ c.new-batch-in-Listed.result.batch.worst _ c.in_ok-begin.field-0 _ c.in_ok-begin.ensures.begun
           (c.new-batch-in-Listed.ensures.worst ∙ c.begin.ensures.worst ∙ c.new-batch.ensures) (ap g.C.FileTask.effects c.begin.ensures.options) (ap (account_at g.F.Write.contents) c.begin.ensures.silent)
           (over_input _ c.args.self.now.names c.in-Listed.list c.in-Listed.separator c.new-batch-in-Listed.result.separator _ _ _ _ _ _ c.in-Listed.is input
-          c.new-batch-in-Listed.ensures.separator (c.in_ok-answer_stream-in-text.ensures.answered c.new-batch-in-Listed.ensures.fresh)),
+          c.new-batch-in-Listed.ensures.separator c.in_ok-answer_stream-in-text.ensures.answered),
       ap Ok c.worst-in-text.ensures,
     )
 
@@ -54,7 +54,7 @@ returns-in_err-answer_list_file-in_default-clause-surveyed g c =
       surveyed _ _ _ _ _ _ _ _ _ _ _ _ c.new-batch-in-Listed.result.batch.worst _ c.in_ok-begin.field-0 _ c.in_ok-begin.ensures.begun
           (c.new-batch-in-Listed.ensures.worst ∙ c.begin.ensures.worst ∙ c.new-batch.ensures) (ap g.C.FileTask.effects c.begin.ensures.options) (ap (account_at g.F.Write.contents) c.begin.ensures.silent)
           (over_file _ c.args.self.now.names c.in-Listed.list c.in-Listed.separator c.new-batch-in-Listed.result.separator _ _ _ _ _ c.in-Listed.is file
-          c.new-batch-in-Listed.ensures.separator (c.in_err-answer_list_file-in_default.ensures.answered c.new-batch-in-Listed.ensures.fresh)),
+          c.new-batch-in-Listed.ensures.separator c.in_err-answer_list_file-in_default.ensures.answered),
       search rules,
     )
 
@@ -66,6 +66,6 @@ returns-clause-surveyed g c =
       surveyed _ _ _ _ _ _ _ _ _ _ _ _ c.new-batch-in-Listed.result.batch.worst _ c.in_ok-begin.field-0 _ c.in_ok-begin.ensures.begun
           (c.new-batch-in-Listed.ensures.worst ∙ c.begin.ensures.worst ∙ c.new-batch.ensures) (ap g.C.FileTask.effects c.begin.ensures.options) (ap (account_at g.F.Write.contents) c.begin.ensures.silent)
           (over_file _ c.args.self.now.names c.in-Listed.list c.in-Listed.separator c.new-batch-in-Listed.result.separator _ _ _ _ _ c.in-Listed.is file
-          c.new-batch-in-Listed.ensures.separator (c.in_ok-answer_list_file-in_default.ensures.answered c.new-batch-in-Listed.ensures.fresh)),
+          c.new-batch-in-Listed.ensures.separator c.in_ok-answer_list_file-in_default.ensures.answered),
       ap Ok c.worst-in_default.ensures,
     )

@@ -1,6 +1,6 @@
 use Rattle.std.proofs.Common.{refl}
 use Rattle.program_surveys.proofs.SurveyRuns.{not_begun}
-use Rattle.program_surveys.proofs.survey_job.SurveyJob.run_by.Goals as goal
+use Rattle.program_surveys.proofs.survey_job.SurveyJob.run.Goals as goal
 
 -- there was no memory for a report
 pub returns-in-Err-clause-ended : goal.returns-in-Err-clause-ended
