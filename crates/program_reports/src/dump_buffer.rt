@@ -1,5 +1,6 @@
 //! `DumpBuffer`: buffers in which one file after another is read as a dump and inspected.
-ghost use Rattle.std.specs.Prelude.{◌≡◌, Some, None, IfOk};
+ghost use Rattle.std.specs.Prelude.{◌≡◌, if◌then◌else◌, Some, None, IfOk, OnOk, is_some, length};
+ghost use Rattle.d64_survey.specs.Dump.{wrong_length};
 ghost use Rattle.d64_g64.specs.DumpOf.{dump_of};
 
 use d64_g64::refill_from;
@@ -27,17 +28,19 @@ impl DumpBuffer {
         })
     }
 
-    /// Replaces the dump by the one that these bytes are, and inspects it. Returns None if they are
-    /// no dump.
-    pub fn inspect(&mut self, bytes: &[u8]) -> Result<Option<Inspection<'_>>, AllocError>
-        ensures { IfOk result (λ all. all ≡ dump_of bytes.now) }
+    /// Replaces the dump by the one that these bytes are. If they are no dump, the error is
+    /// `WrongLength`, and the dump is unchanged.
+    pub fn refill(&mut self, bytes: &[u8]) -> Result<(), DumpFault>
+        ensures refused { wrong_length result ≡ (if is_some (dump_of bytes.now) then None else Some (length bytes.now)) }
+        ensures filled { OnOk result (dump_of bytes.now ≡ Some self.new.dump) }
     {
-        match refill_from(&mut self.dump, self.alloc, bytes) {
-            Ok(()) => {}
-            Err(DumpFault::WrongLength(_)) => return Ok(None),
-            Err(DumpFault::Memory(error)) => return Err(error),
-        }
-        let all = Inspection::of(&self.dump, &mut self.faults, &mut self.errors)?;
-        Ok(Some(all))
+        refill_from(&mut self.dump, self.alloc, bytes)
+    }
+
+    /// Inspects the dump.
+    pub fn inspect(&mut self) -> Result<Inspection<'_>, AllocError>
+        ensures { IfOk result (λ all. all ≡ self.old.dump) }
+    {
+        Inspection::of(&self.dump, &mut self.faults, &mut self.errors)
     }
 }

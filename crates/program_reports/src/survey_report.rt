@@ -5,6 +5,7 @@ ghost use Rattle.program_reports.specs.Printings.{survey_rule};
 
 use crate::dump_buffer::DumpBuffer;
 use crate::printer::Printer;
+use d64_survey::DumpFault;
 use host_storage::Host;
 use out_messages::{unread_line, wrong_length_line};
 use program_batch::{FileTask, ReportBuffer, Verdict};
@@ -66,11 +67,16 @@ impl<P: Printer + Drop> FileTask for SurveyReport<P> {
             unread_line(&mut buffer.complaint, name)?;
             return Ok(Verdict::Failed);
         };
-        let Some(all) = self.dump.inspect(bytes)? else {
-            buffer.printed = self.printer.print_no_dump(name, bytes, out)?;
-            wrong_length_line(&mut buffer.complaint, name, bytes)?;
-            return Ok(Verdict::Failed);
-        };
+        match self.dump.refill(bytes) {
+            Ok(()) => {}
+            Err(DumpFault::WrongLength(_)) => {
+                buffer.printed = self.printer.print_no_dump(name, bytes, out)?;
+                wrong_length_line(&mut buffer.complaint, name, bytes)?;
+                return Ok(Verdict::Failed);
+            }
+            Err(DumpFault::Memory(error)) => return Err(error),
+        }
+        let all = self.dump.inspect()?;
         buffer.printed = self.printer.print_dump(name, bytes, &all, out)?;
         if self.printer.is_amiss(&all) {
             Ok(Verdict::Amiss)
