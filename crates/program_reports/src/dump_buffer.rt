@@ -1,20 +1,20 @@
-//! `DumpBuffer`: buffers in which one file after another is read as a dump and inspected.
-ghost use Rattle.std.specs.Prelude.{◌≡◌, if◌then◌else◌, Some, None, IfOk, OnOk, is_some, length};
+//! `DumpBuffer`: buffers in which one file after another is read as a dump, and its lists are made.
+ghost use Rattle.std.specs.Prelude.{◌≡◌, if◌then◌else◌, Some, None, OnOk, is_some, length};
 ghost use Rattle.d64_survey.specs.Dump.{wrong_length};
 ghost use Rattle.d64_g64.specs.DumpOf.{dump_of};
 
 use d64_g64::refill_from;
 use d64_image::Image;
-use d64_survey::{Dump, DumpFault, Fault, Inspection, ReadError};
+use d64_survey::{Dump, DumpFault, Fault, ReadError};
 use std::alloc::{AllocError, Global};
 
 /// A dump and the lists of its inspection, in buffers that are used for one file after another.
 #[derive(Drop)]
 pub struct DumpBuffer {
     alloc: Global,
-    dump: Dump,
-    faults: Vec<Fault>,
-    errors: Vec<ReadError>,
+    pub(crate) dump: Dump,
+    pub(crate) faults: Vec<Fault>,
+    pub(crate) errors: Vec<ReadError>,
 }
 
 impl DumpBuffer {
@@ -35,12 +35,5 @@ impl DumpBuffer {
         ensures filled { OnOk result (dump_of bytes.now ≡ Some self.new.dump) }
     {
         refill_from(&mut self.dump, self.alloc, bytes)
-    }
-
-    /// Inspects the dump.
-    pub fn inspect(&mut self) -> Result<Inspection<'_>, AllocError>
-        ensures { IfOk result (λ all. all ≡ self.old.dump) }
-    {
-        Inspection::of(&self.dump, &mut self.faults, &mut self.errors)
     }
 }

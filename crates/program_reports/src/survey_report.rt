@@ -5,7 +5,7 @@ ghost use Rattle.program_reports.specs.Printings.{survey_rule};
 
 use crate::dump_buffer::DumpBuffer;
 use crate::printer::Printer;
-use d64_survey::DumpFault;
+use d64_survey::{DumpFault, Inspection};
 use host_storage::Host;
 use out_messages::{unread_line, wrong_length_line};
 use program_batch::{FileTask, ReportBuffer, Verdict};
@@ -76,7 +76,12 @@ impl<P: Printer + Drop> FileTask for SurveyReport<P> {
             }
             Err(DumpFault::Memory(error)) => return Err(error),
         }
-        let all = self.dump.inspect()?;
+        // made here, since each function that passes an inspection on copies it
+        let all = Inspection::of(
+            &self.dump.dump,
+            &mut self.dump.faults,
+            &mut self.dump.errors,
+        )?;
         buffer.printed = self.printer.print_dump(name, bytes, &all, out)?;
         if self.printer.is_amiss(&all) {
             Ok(Verdict::Amiss)
