@@ -12,7 +12,7 @@ use clap::{Arg, ArgAction, Command, Error};
 use std::alloc::{AllocError, Global};
 
 /// The program's version.
-const VERSION: &str = "0.2.0";
+const VERSION: &str = "0.3.0";
 
 /// Returns the command `d64sh`, with its subcommands.
 pub(crate) fn d64sh<'a>(alloc: Global) -> Result<Command<'a>, AllocError>

@@ -202,7 +202,7 @@ map|--help => Example: d64sh map --format svg disk.d64 >disk.svg
 diff|--help => Example: d64sh diff before.d64 after.d64
 merge|--help => Example: d64sh merge -o best.d64 first.d64 second.d64 third.g64
 catalogue|--help => Example: d64sh catalogue --maps *.d64 >disks.html
--V => d64sh 0.2.0";
+-V => d64sh 0.3.0";
 
 /// Returns the program's name and the arguments before ` => ` in a row, and the text after it.
 fn parted<'a>(alloc: Global, row: &'a str) -> Result<(Vec<&'a str>, &'a str), Fail> {
