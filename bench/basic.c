@@ -27,7 +27,7 @@ static size_t kept(int opener, const unsigned char *at, size_t left) {
     return left;
 }
 
-/* Skips blank lines and remarks that begin with `;`; answers the bytes of the next line in text form. */
+/* Skips blank lines and remarks that begin with `;`; returns the bytes of the next line in text form. */
 static size_t crunch(size_t length) {
     size_t made = 2, at = 0;
     out[0] = 1, out[1] = 8;

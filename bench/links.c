@@ -14,7 +14,7 @@ static int block(int track, int sector) {
     return track < 1 || track > 35 || sector >= sectors(track) ? -1 : first[track] + sector;
 }
 
-/* Marks the chain from a block; answers whether it ends and meets no mark. */
+/* Marks the chain from a block; returns whether it ends and meets no mark. */
 static int walk(unsigned char *seen, int at) {
     while (at >= 0 && !seen[at]) {
         seen[at] = 1;

@@ -12,7 +12,7 @@
  *
  * SWEEP_PIECE is the most that a read of the standard input gives. SWEEP_INPUT is how many bytes the standard input gives
  * before it fails, and SWEEP_OUTPUT how many the standard output takes before it fails by the error SWEEP_FULL, or takes
- * nothing where that is 0. */
+ * nothing if that is 0. */
 #define _GNU_SOURCE
 #include <dlfcn.h>
 #include <errno.h>
@@ -149,7 +149,7 @@ static int turn_of(const char *name, int fd)
     return is_counted ? turn(name, PATH_OF(fd), OF_FILE(fd)) : PASS;
 }
 
-/* How many of these bytes a stream takes or gives that stops after so many, of which some were. */
+/* How many of these bytes a stream takes or gives that stops at a limit, if some were taken or given before. */
 static size_t up_to(const char *limit, size_t done, size_t count)
 {
     size_t most = limit ? strtoul(limit, NULL, 10) : count;
