@@ -86,6 +86,7 @@ def instructions(work, folder, passed=()):
         given.write(work.script.encode())
         given.seek(0)
         words = ["valgrind", "--tool=callgrind", "--callgrind-out-file=/dev/null", f"--log-file={log.name}", *work.words]
-        subprocess.run(words, cwd=folder, stdin=given, stdout=subprocess.DEVNULL, stderr=subprocess.DEVNULL, pass_fds=passed, check=False)
+        # each variable of the environment takes instructions at the start of a process
+        subprocess.run(words, cwd=folder, stdin=given, stdout=subprocess.DEVNULL, stderr=subprocess.DEVNULL, pass_fds=passed, check=False, env={"PATH": os.defpath})
         counts = [line.split()[-1] for line in log.read().decode().splitlines() if "Collected :" in line]
     return int(counts[0]) if counts else None
