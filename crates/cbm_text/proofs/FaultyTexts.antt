@@ -10,7 +10,7 @@ use Rattle.cbm_text.specs.declared.fault.BasicFault.TheVariants.{NoNumber, Numbe
 use Rattle.cbm_text.specs.declared.cause.Cause.{Cause}
 use Rattle.cbm_text.specs.declared.faulty_text.FaultyLine.{FaultyLine}
 use Rattle.cbm_text.specs.Program.{ProgramLine, address_behind}
-use Rattle.cbm_text.specs.BasicText.{IsLine, HasFault, IsOfMemory, TellsLine}
+use Rattle.cbm_text.specs.BasicText.{IsLine, HasFault, IsBasicOutOfMemory, TellsLine}
 use Rattle.cbm_text.specs.Causes.{IsCause}
 use Rattle.cbm_text.specs.FaultyLines.{AreFaulty, AreFaultyIn, IsFaulty, IsNoted}
 use Rattle.cbm_text.proofs.TextPrograms.{tells_line}
@@ -93,11 +93,11 @@ so_far_line start at next place most count text raw kept old raws line so_far cu
 }
 
 -- a fault that has a cause is the line's, since there was memory
-pub fault_is_of_line : (at number : ℕ) (text : List ℕ) (fault : BasicFault) (cause : Cause) → IsOfMemory fault ⊎ HasFault at number text fault → IsCause text fault cause → HasFault at number text fault
+pub fault_is_of_line : (at number : ℕ) (text : List ℕ) (fault : BasicFault) (cause : Cause) → IsBasicOutOfMemory fault ⊎ HasFault at number text fault → IsCause text fault cause → HasFault at number text fault
 fault_is_of_line at number text fault cause (inr here) is = here
 fault_is_of_line at number text fault cause (inl memory) is = none fault memory is
   where
-    none : (fault : BasicFault) → IsOfMemory fault → IsCause text fault cause → HasFault at number text fault
+    none : (fault : BasicFault) → IsBasicOutOfMemory fault → IsCause text fault cause → HasFault at number text fault
     none (NoNumber line) memory is = absurd memory
     none (NumberTooLarge line) memory is = absurd memory
     none (Text line why) memory is = absurd memory
@@ -147,7 +147,7 @@ short_kept start at place most count text kept old so_far = omega (arith, ap len
 -- a line, by what was made of it
 pub so_far_noted : (start at next place most count more : ℕ) (text raw : List ℕ) (kept new : List FaultyLine) (old raws : List (List ℕ)) (outcome : Result ℕ BasicFault) → FaultySoFar start at place most count text kept old → old ≡ raw ∷ raws
     → is_skipped (text_of raw) ≡ false → IfOk outcome (λ behind. (line : ProgramLine) × IsLine at (text_of raw) line × (behind ≡ address_behind at line.bytes))
-    → IfErr outcome (λ fault. IsOfMemory fault ⊎ HasFault at (place + 1) (text_of raw) fault) → IsNoted at (text_of raw) most outcome kept next new
+    → IfErr outcome (λ fault. IsBasicOutOfMemory fault ⊎ HasFault at (place + 1) (text_of raw) fault) → IsNoted at (text_of raw) most outcome kept next new
     → more ≡ count + from_bool (is_err outcome) → FaultySoFar start next (place + 1) most more text new raws
 so_far_noted start at next place most count more text raw kept new old raws (Ok behind) so_far cut unskipped made failed noted added =
     let same : more ≡ count + 0 = added in

@@ -5,8 +5,8 @@ use Rattle.std.proofs.lemmas.Bool.Decides.{nat_tests}
 use Rattle.std.specs.List.{flat_map}
 use Rattle.std.proofs.lemmas.List.Elements.{All-nil, All-cons, All-head, All-tail, All-append}
 use Rattle.script_text.specs.RawLines.{lines_of, text_of}
-use Rattle.cbm_text.specs.Kept.{Opener, QuoteMark, RemWord, DataWord, opening, code_of}
-use Rattle.cbm_text.specs.Pieces.{LinePiece, Kept, Token, Question, Single, print_token, crunched_piece, AreCut}
+use Rattle.cbm_text.specs.Kept.{Opener, QuoteMark, RemWord, DataWord, opening, opener_byte}
+use Rattle.cbm_text.specs.Pieces.{LinePiece, Kept, Token, Question, Single, print_token, crunched_piece, ArePieces}
 use Rattle.cbm_text.specs.Keywords.{keywords, token_from}
 use Rattle.cbm_text.specs.Crunching.{question, AreTextPieces, Crunched}
 use Rattle.cbm_text.specs.Program.{ProgramLine, Program, word, address_behind, line_layout, lines_layout}
@@ -44,19 +44,19 @@ token_small text token rest is = of_test (nat_lt token 204) refl
         let never : None ≡ Some shown_word.0 = sym (keyword_past token above) ∙ shown_word.1 in
         absurd cc
 
-code_small : (opener : Opener) → code_of opener < 256
+code_small : (opener : Opener) → opener_byte opener < 256
 code_small QuoteMark = omega arith
 code_small RemWord = omega arith
 code_small DataWord = omega arith
 
 -- bytes crunch to bytes
 pieces_small : (pieces : List LinePiece) (text : List ℕ) → AreTextPieces text pieces → AreBytes text → AreBytes (flat_map crunched_piece pieces)
-unfolding AreCut
+unfolding ArePieces
 pieces_small [] text cut small = All-nil (λ b. b < 256)
 pieces_small (Kept opener run ∷ pieces) text (rest, (text_is, kept), others) small =
     let cut = parts (opening opener ++ run) rest (subst AreBytes text_is small) in
     let run_small = (parts (opening opener) run cut.0).1 in
-    joined (code_of opener ∷ run) (flat_map crunched_piece pieces) (All-cons (λ b. b < 256) (code_of opener) run (code_small opener) run_small)
+    joined (opener_byte opener ∷ run) (flat_map crunched_piece pieces) (All-cons (λ b. b < 256) (opener_byte opener) run (code_small opener) run_small)
     (pieces_small pieces rest others cut.1)
 pieces_small (Token token ∷ pieces) text (rest, (no_opener, is), others) small =
     let shown_word = token_shown text token rest is in

@@ -6,7 +6,7 @@ use Rattle.std.proofs.lemmas.List.Sums.{sum_by-append}
 use Rattle.std.proofs.lemmas.Bool.{eqb-true, eqb-false}
 use Rattle.cbm_text.specs.declared.mode.Mode.{Mode}
 use Rattle.cbm_text.specs.declared.mode.Mode.TheVariants.{Free, Quoted, Remark, Data, QuotedData}
-use Rattle.cbm_text.specs.Kept.{quote, colon, Opener, QuoteMark, RemWord, DataWord, code_of, quotes_in, ends, HasNoEnd, IsKept}
+use Rattle.cbm_text.specs.Kept.{quote, colon, Opener, QuoteMark, RemWord, DataWord, opener_byte, quotes_in, ends, HasNoEnd, IsKept}
 use Rattle.cbm_text.specs.Modes.{next_mode, CrunchedFrom, first_code, text_of_code, expanded_from}
 use Rattle.cbm_text.proofs.CodesSoFar.{kept_code}
 
@@ -16,7 +16,7 @@ mode_in QuoteMark before = Quoted
 mode_in RemWord before = Remark
 mode_in DataWord before = cond (quotes_in before % 2 == 0) Data QuotedData
 
-pub mode_behind : (opener : Opener) → next_mode Free (code_of opener) ≡ mode_in opener []
+pub mode_behind : (opener : Opener) → next_mode Free (opener_byte opener) ≡ mode_in opener []
 mode_behind QuoteMark = refl
 mode_behind RemWord = refl
 mode_behind DataWord = refl

@@ -9,8 +9,8 @@ use Rattle.std.proofs.lemmas.Slice.Eq.{starts_is}
 use Rattle.cbm_text.specs.declared.mode.Mode.{Mode}
 use Rattle.cbm_text.specs.declared.mode.Mode.TheVariants.{Free, Quoted, Remark, Data}
 use Rattle.cbm_text.specs.Keywords.{keywords, keyword, token_from}
-use Rattle.cbm_text.specs.Kept.{quote, rem_token, data_token, Opener, QuoteMark, RemWord, DataWord, opening, code_of, IsKept}
-use Rattle.cbm_text.specs.Pieces.{LinePiece, Kept, Token, Question, Single, print_token, written_piece, crunched_piece, AreCut}
+use Rattle.cbm_text.specs.Kept.{quote, rem_token, data_token, Opener, QuoteMark, RemWord, DataWord, opening, opener_byte, IsKept}
+use Rattle.cbm_text.specs.Pieces.{LinePiece, Kept, Token, Question, Single, print_token, written_piece, crunched_piece, ArePieces}
 use Rattle.cbm_text.specs.Crunching.{question, pi, HasNoOpener, TextBegins, AreTextPieces, Crunched}
 use Rattle.cbm_text.specs.Listing.{IsNoOpener, CodesBegin, AreCodePieces, Listed}
 use Rattle.cbm_text.specs.Modes.{next_mode, single_code, free_code, first_code, CrunchedFrom, text_of_code, expanded_from, expanded_bytes}
@@ -37,7 +37,7 @@ begins_with_opener text = of_tests (starts_with nat_eq text (opening QuoteMark))
     of_tests false quote_at false rem_at false data_at = inr (none quote_at rem_at data_at)
 
 -- a crunched byte opens a run or none
-opens_or_not : (code : ℕ) → ((opener : Opener) × (code ≡ code_of opener)) ⊎ IsNoOpener code
+opens_or_not : (code : ℕ) → ((opener : Opener) × (code ≡ opener_byte opener)) ⊎ IsNoOpener code
 opens_or_not code = of_tests (code == quote) refl (code == rem_token) refl (code == data_token) refl
   where
     none : (code == quote) ≡ false → (code == rem_token) ≡ false → (code == data_token) ≡ false → IsNoOpener code
@@ -45,7 +45,7 @@ opens_or_not code = of_tests (code == quote) refl (code == rem_token) refl (code
     none no_quote no_rem no_data RemWord = eqb-false _ _ no_rem
     none no_quote no_rem no_data DataWord = eqb-false _ _ no_data
 
-    of_tests : (a : Bool) → (code == quote) ≡ a → (b : Bool) → (code == rem_token) ≡ b → (c : Bool) → (code == data_token) ≡ c → ((opener : Opener) × (code ≡ code_of opener)) ⊎ IsNoOpener code
+    of_tests : (a : Bool) → (code == quote) ≡ a → (b : Bool) → (code == rem_token) ≡ b → (c : Bool) → (code == data_token) ≡ c → ((opener : Opener) × (code ≡ opener_byte opener)) ⊎ IsNoOpener code
     of_tests true quote_at b rem_at c data_at = inl (QuoteMark, eqb-true _ _ quote_at)
     of_tests false quote_at true rem_at c data_at = inl (RemWord, eqb-true _ _ rem_at)
     of_tests false quote_at false rem_at true data_at = inl (DataWord, eqb-true _ _ data_at)
@@ -70,13 +70,13 @@ stays_free code none = of_quote (code == quote) refl
     of_quote false at = of_rem (code == rem_token) refl
 
 -- an opener is crunched to its code, and this stands for it
-opener_first : (opener : Opener) (rest : List ℕ) → first_code Free (opening opener ++ rest) ≡ Some (code_of opener, rest)
+opener_first : (opener : Opener) (rest : List ℕ) → first_code Free (opening opener ++ rest) ≡ Some (opener_byte opener, rest)
 unfolding free_code keywords
 opener_first QuoteMark rest = refl
 opener_first RemWord rest = refl
 opener_first DataWord rest = refl
 
-opener_shown : (opener : Opener) → text_of_code Free (code_of opener) ≡ opening opener
+opener_shown : (opener : Opener) → text_of_code Free (opener_byte opener) ≡ opening opener
 unfolding keyword keywords
 opener_shown QuoteMark = refl
 opener_shown RemWord = refl
@@ -99,7 +99,7 @@ token_no_opener text code rest none is opener opens = it opener opens
         let never : true ≡ false = sym found_there ∙ none opener in
         absurd cc
 
-    it : (opener : Opener) → code ≢ code_of opener
+    it : (opener : Opener) → code ≢ opener_byte opener
     it QuoteMark opens = absurd (omega (arith, begins.at, opens))
     it RemWord opens = word_at RemWord 15 (omega (arith, begins.at, opens)) refl
     it DataWord opens = word_at DataWord 3 (omega (arith, begins.at, opens)) refl
@@ -167,7 +167,7 @@ first_single byte others code rest none no_token is = by_question (byte == quest
 
 -- the first crunched byte of a text is that of an opener, or of a piece of one crunched byte
 first_piece : (text : List ℕ) (code : ℕ) (rest : List ℕ) → first_code Free text ≡ Some (code, rest)
-    → ((opener : Opener) × (code ≡ code_of opener) × (text ≡ opening opener ++ rest)) ⊎ FirstOther text code rest
+    → ((opener : Opener) × (code ≡ opener_byte opener) × (text ≡ opening opener ++ rest)) ⊎ FirstOther text code rest
 unfolding free_code
 first_piece [] code rest is = absurd cc
 first_piece (byte ∷ others) code rest is = of_opener (begins_with_opener (byte ∷ others))
@@ -178,33 +178,33 @@ first_piece (byte ∷ others) code rest is = of_opener (begins_with_opener (byte
     by_token none (Some it) at here = record { piece = Token code; begins = (none, at ∙ here); is = refl; opens = token_no_opener (byte ∷ others) code rest none (at ∙ here) }
 
     of_opener : ((opener : Opener) × (starts_with nat_eq (byte ∷ others) (opening opener) ≡ true)) ⊎ HasNoOpener (byte ∷ others)
-        → ((opener : Opener) × (code ≡ code_of opener) × (byte ∷ others ≡ opening opener ++ rest)) ⊎ FirstOther (byte ∷ others) code rest
+        → ((opener : Opener) × (code ≡ opener_byte opener) × (byte ∷ others ≡ opening opener ++ rest)) ⊎ FirstOther (byte ∷ others) code rest
     of_opener (inl (opener, starts)) =
         let tail = drop (length (opening opener)) (byte ∷ others) in
         let joined : byte ∷ others ≡ opening opener ++ tail = (starts_is Decides-eqb (byte ∷ others) (opening opener) (starts_with nat_eq (byte ∷ others) (opening opener)) refl).0 starts in
-        let same : found code rest ≡ found (code_of opener) tail = sym is ∙ ap (λ (w : List ℕ). first_code Free w) joined ∙ opener_first opener tail in
+        let same : found code rest ≡ found (opener_byte opener) tail = sym is ∙ ap (λ (w : List ℕ). first_code Free w) joined ∙ opener_first opener tail in
         inl (opener, ap code_in same, joined ∙ ap (λ (w : List ℕ). opening opener ++ w) (sym (ap rest_in same)))
     of_opener (inr none) = inr (by_token none (token_from 128 keywords (byte ∷ others)) refl is)
 
 -- ---- a text, by pieces and byte after byte
 
 text_by_opener : (opener : Opener) (text run rest codes others : List ℕ) (pieces : List LinePiece) → text ≡ opening opener ++ (run ++ rest) → IsKept opener run rest → AreTextPieces rest pieces
-    → others ≡ flat_map crunched_piece pieces → codes ≡ code_of opener ∷ (run ++ others) → (pieces : List LinePiece) × AreTextPieces text pieces × (codes ≡ flat_map crunched_piece pieces)
-unfolding AreCut
+    → others ≡ flat_map crunched_piece pieces → codes ≡ opener_byte opener ∷ (run ++ others) → (pieces : List LinePiece) × AreTextPieces text pieces × (codes ≡ flat_map crunched_piece pieces)
+unfolding ArePieces
 text_by_opener opener text run rest codes others pieces text_is kept cut is codes_is = (
   Kept opener run ∷ pieces,
   (rest, (text_is ∙ sym (append_assoc (opening opener) run rest), kept), cut),
-  codes_is ∙ ap (λ (w : List ℕ). code_of opener ∷ (run ++ w)) is,
+  codes_is ∙ ap (λ (w : List ℕ). opener_byte opener ∷ (run ++ w)) is,
 )
 
 pieces_by_modes : (n : ℕ) (text codes : List ℕ) → length codes ≤ n → CrunchedFrom Free text codes → (pieces : List LinePiece) × AreTextPieces text pieces × (codes ≡ flat_map crunched_piece pieces)
-unfolding CrunchedFrom AreCut
+unfolding CrunchedFrom ArePieces
 pieces_by_modes zero text [] short none = ([], none, refl)
 pieces_by_modes zero text (code ∷ codes) short more = absurd (omega arith)
 pieces_by_modes (suc n) text [] short none = ([], none, refl)
 pieces_by_modes (suc n) text (code ∷ codes) short (rest, first, others) = of_first (first_piece text code rest first) (λ next left small more. pieces_by_modes n next left small more)
   where
-    of_first : ((opener : Opener) × (code ≡ code_of opener) × (text ≡ opening opener ++ rest)) ⊎ FirstOther text code rest
+    of_first : ((opener : Opener) × (code ≡ opener_byte opener) × (text ≡ opening opener ++ rest)) ⊎ FirstOther text code rest
         → ((next left : List ℕ) → length left ≤ n → CrunchedFrom Free next left → (pieces : List LinePiece) × AreTextPieces next pieces × (left ≡ flat_map crunched_piece pieces))
         → (pieces : List LinePiece) × AreTextPieces text pieces × (code ∷ codes ≡ flat_map crunched_piece pieces)
     of_first (inl (opener, code_is, text_is)) later =
@@ -214,7 +214,7 @@ pieces_by_modes (suc n) text (code ∷ codes) short (rest, first, others) = of_f
         let small : length cut.others ≤ n = omega (arith, ap length cut.codes_is, length-append cut.run cut.others) in
         let more = later cut.rest cut.others small cut.crunched in
         text_by_opener opener text cut.run cut.rest (code ∷ codes) cut.others more.0 (text_is ∙ ap (λ (w : List ℕ). opening opener ++ w) cut.text_is) kept more.1 more.2
-        (ap (λ (k : ℕ). k ∷ codes) code_is ∙ ap (λ (w : List ℕ). code_of opener ∷ w) cut.codes_is)
+        (ap (λ (k : ℕ). k ∷ codes) code_is ∙ ap (λ (w : List ℕ). opener_byte opener ∷ w) cut.codes_is)
     of_first (inr other) later =
         let free : CrunchedFrom Free rest codes = subst (λ (m : Mode). CrunchedFrom m rest codes) (stays_free code other.opens) others in
         let (pieces, is, same) = later rest codes (omega arith) free in (
@@ -254,7 +254,7 @@ one_more : (text : List ℕ) (code : ℕ) (rest others : List ℕ) → first_cod
 unfolding CrunchedFrom
 one_more text code rest others first opens crunched = (rest, first, subst (λ (m : Mode). CrunchedFrom m rest others) (sym (stays_free code opens)) crunched)
 
-opener_more : (opener : Opener) (text run rest others : List ℕ) → text ≡ opening opener ++ run ++ rest → IsKept opener run rest → CrunchedFrom Free rest others → CrunchedFrom Free text (code_of opener ∷ (run ++ others))
+opener_more : (opener : Opener) (text run rest others : List ℕ) → text ≡ opening opener ++ run ++ rest → IsKept opener run rest → CrunchedFrom Free rest others → CrunchedFrom Free text (opener_byte opener ∷ (run ++ others))
 unfolding CrunchedFrom
 opener_more opener text run rest others text_is kept crunched =
     let runs = modes_of_kept opener [] run rest (no_end_nothing opener) kept in (
@@ -264,7 +264,7 @@ opener_more opener text run rest others text_is kept crunched =
     )
 
 modes_of_pieces : (pieces : List LinePiece) (text : List ℕ) → AreTextPieces text pieces → CrunchedFrom Free text (flat_map crunched_piece pieces)
-unfolding AreCut CrunchedFrom
+unfolding ArePieces CrunchedFrom
 modes_of_pieces [] text none = none
 modes_of_pieces (Kept opener run ∷ pieces) text (rest, (text_is, kept), others) = opener_more opener text run rest (flat_map crunched_piece pieces) text_is kept (modes_of_pieces pieces rest others)
 modes_of_pieces (Token token ∷ pieces) text (rest, (none, is), others) =
@@ -304,16 +304,16 @@ unfolding expanded_from
 plain_expanded code rest opens = ap (λ (m : Mode). text_of_code Free code ++ expanded_from m rest) (stays_free code opens)
 
 -- an opener stands for its keyword, and what is kept behind it for itself
-opener_expanded : (opener : Opener) (run rest : List ℕ) → RunsOn (mode_in opener []) run rest → expanded_bytes (code_of opener ∷ (run ++ rest)) ≡ opening opener ++ run ++ expanded_bytes rest
+opener_expanded : (opener : Opener) (run rest : List ℕ) → RunsOn (mode_in opener []) run rest → expanded_bytes (opener_byte opener ∷ (run ++ rest)) ≡ opening opener ++ run ++ expanded_bytes rest
 unfolding expanded_from
 opener_expanded opener run rest runs =
-    ap (λ (m : Mode). text_of_code Free (code_of opener) ++ expanded_from m (run ++ rest)) (mode_behind opener)
-    ∙ ap (λ (w : List ℕ). text_of_code Free (code_of opener) ++ w) (expanded_along (mode_in opener []) run rest runs)
+    ap (λ (m : Mode). text_of_code Free (opener_byte opener) ++ expanded_from m (run ++ rest)) (mode_behind opener)
+    ∙ ap (λ (w : List ℕ). text_of_code Free (opener_byte opener) ++ w) (expanded_along (mode_in opener []) run rest runs)
     ∙ ap (λ (w : List ℕ). w ++ (run ++ expanded_bytes rest)) (opener_shown opener) ∙ sym (append_assoc (opening opener) run (expanded_bytes rest))
 
-codes_by_opener : (opener : Opener) (codes run rest : List ℕ) (pieces : List LinePiece) → codes ≡ code_of opener ∷ (run ++ rest) → IsKept opener run rest → RunsOn (mode_in opener []) run rest → AreCodePieces rest pieces
+codes_by_opener : (opener : Opener) (codes run rest : List ℕ) (pieces : List LinePiece) → codes ≡ opener_byte opener ∷ (run ++ rest) → IsKept opener run rest → RunsOn (mode_in opener []) run rest → AreCodePieces rest pieces
     → expanded_bytes rest ≡ flat_map written_piece pieces → (pieces : List LinePiece) × AreCodePieces codes pieces × (expanded_bytes codes ≡ flat_map written_piece pieces)
-unfolding AreCut
+unfolding ArePieces
 codes_by_opener opener codes run rest pieces codes_is kept runs cut is = (
   Kept opener run ∷ pieces,
   (rest, (codes_is, kept), cut),
@@ -321,19 +321,19 @@ codes_by_opener opener codes run rest pieces codes_is kept runs cut is = (
 )
 
 pieces_of_codes : (n : ℕ) (codes : List ℕ) → length codes ≤ n → (pieces : List LinePiece) × AreCodePieces codes pieces × (expanded_bytes codes ≡ flat_map written_piece pieces)
-unfolding AreCut expanded_from
+unfolding ArePieces expanded_from
 pieces_of_codes zero [] short = ([], refl, refl)
 pieces_of_codes zero (code ∷ codes) short = absurd (omega arith)
 pieces_of_codes (suc n) [] short = ([], refl, refl)
 pieces_of_codes (suc n) (code ∷ codes) short = of_opener (opens_or_not code) (λ left small. pieces_of_codes n left small)
   where
-    of_opener : ((opener : Opener) × (code ≡ code_of opener)) ⊎ IsNoOpener code
+    of_opener : ((opener : Opener) × (code ≡ opener_byte opener)) ⊎ IsNoOpener code
         → ((left : List ℕ) → length left ≤ n → (pieces : List LinePiece) × AreCodePieces left pieces × (expanded_bytes left ≡ flat_map written_piece pieces))
         → (pieces : List LinePiece) × AreCodePieces (code ∷ codes) pieces × (expanded_bytes (code ∷ codes) ≡ flat_map written_piece pieces)
     of_opener (inl (opener, code_is)) later =
         let cut = cut_bytes (mode_in opener []) codes in
         let kept : IsKept opener cut.run cut.rest = kept_by_modes opener [] cut.run cut.rest (no_end_nothing opener) cut.runs in
-        let joined : code ∷ codes ≡ code_of opener ∷ (cut.run ++ cut.rest) = ap (λ (k : ℕ). k ∷ codes) code_is ∙ ap (λ (w : List ℕ). code_of opener ∷ w) cut.joined in
+        let joined : code ∷ codes ≡ opener_byte opener ∷ (cut.run ++ cut.rest) = ap (λ (k : ℕ). k ∷ codes) code_is ∙ ap (λ (w : List ℕ). opener_byte opener ∷ w) cut.joined in
         let more = later cut.rest (omega (arith, ap length cut.joined, length-append cut.run cut.rest)) in
         codes_by_opener opener (code ∷ codes) cut.run cut.rest more.0 joined kept cut.runs more.1 more.2
     of_opener (inr opens) later =
@@ -346,7 +346,7 @@ unfolding Listed
 listed_by_modes codes = pieces_of_codes (length codes) codes (omega arith)
 
 modes_of_listed_pieces : (pieces : List LinePiece) (codes : List ℕ) → AreCodePieces codes pieces → flat_map written_piece pieces ≡ expanded_bytes codes
-unfolding AreCut expanded_from
+unfolding ArePieces expanded_from
 modes_of_listed_pieces [] codes none = sym (ap (λ (w : List ℕ). expanded_bytes w) none)
 modes_of_listed_pieces (Kept opener run ∷ pieces) codes (rest, (codes_is, kept), others) =
     let runs = modes_of_kept opener [] run rest (no_end_nothing opener) kept in

@@ -5,7 +5,7 @@ use Rattle.std.specs.List.{flat_map}
 use Rattle.cbm_text.specs.declared.mode.Mode.TheVariants.{Free}
 use Rattle.cbm_text.specs.Keywords.{keywords, keyword}
 use Rattle.cbm_text.specs.Kept.{Opener, QuoteMark, RemWord, DataWord, opening, IsKept}
-use Rattle.cbm_text.specs.Pieces.{LinePiece, Kept, Token, Question, Single, written_piece, crunched_piece, AreCut}
+use Rattle.cbm_text.specs.Pieces.{LinePiece, Kept, Token, Question, Single, written_piece, crunched_piece, ArePieces}
 use Rattle.cbm_text.specs.Crunching.{pi, HasNoOpener, TextBegins, AreTextPieces, Crunched}
 use Rattle.cbm_text.specs.Listing.{AreCodePieces, Listed}
 use Rattle.cbm_text.specs.Laws.{HasNoFreeQuestion, CrunchesOnce, ListsOnce}
@@ -25,7 +25,7 @@ nothing_begins Question rest is = absurd cc
 nothing_begins (Single byte) rest (none, no_token, is, plain, kept) = absurd cc
 
 nothing_cut : (pieces : List LinePiece) (text : List ℕ) → text ≡ [] → AreTextPieces text pieces → pieces ≡ []
-unfolding AreCut
+unfolding ArePieces
 nothing_cut [] text none cut = refl
 nothing_cut (piece ∷ pieces) text none (rest, begins, others) = absurd (nothing_begins piece rest (subst (λ (w : List ℕ). TextBegins w piece rest) none begins))
 
@@ -48,7 +48,7 @@ later_in piece other pieces (k, within, is) = (suc k, omega arith, is)
 
 -- the pieces of a text without a free `?` are those of its crunched bytes
 same_pieces : (pieces : List LinePiece) (text : List ℕ) → AreTextPieces text pieces → ¬ (Contains pieces Question) → AreCodePieces (flat_map crunched_piece pieces) pieces × (text ≡ flat_map written_piece pieces)
-unfolding AreCut
+unfolding ArePieces
 same_pieces [] text none plain = (refl, none)
 same_pieces (Kept opener run ∷ pieces) text (rest, (text_is, kept), others) plain =
     let (cut, is) = same_pieces pieces rest others (λ within. plain (later_in (Kept opener run) Question pieces within)) in

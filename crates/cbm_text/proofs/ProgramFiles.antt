@@ -6,7 +6,7 @@ use Rattle.std.proofs.lemmas.List.Quantifiers.{position-Some}
 use Rattle.std.proofs.lemmas.Bool.{eqb-true, eqb-false, ltb-false}
 use Rattle.std.proofs.lemmas.List.Sums.{fails_before_first}
 use Rattle.std.specs.List.{position_or_len}
-use Rattle.cbm_text.specs.Program.{ProgramLine, Program, BeginsLine, LinesRead, Reads, word}
+use Rattle.cbm_text.specs.Program.{ProgramLine, Program, BeginsLine, LinesRead, ReadsProgram, word}
 use Rattle.cbm_text.specs.Listing.{IsListing, Lists}
 use Rattle.cbm_text.specs.Modes.{expanded_bytes, listing, line_listing}
 use Rattle.cbm_text.proofs.LinePieces.{listed_by_modes}
@@ -202,14 +202,14 @@ listed_never lines text left so_far never all read = let rest = so_far.only all 
 -- ---- the file
 
 -- a file by its first two bytes
-pub file_reads : (file : List ℕ) (program : Program) → 2 ≤ length file → LinesRead (take (length file - 2) (drop 2 file)) program → Reads file program
-unfolding Reads
+pub file_reads : (file : List ℕ) (program : Program) → 2 ≤ length file → LinesRead (take (length file - 2) (drop 2 file)) program → ReadsProgram file program
+unfolding ReadsProgram
 file_reads [] program long read = absurd (omega arith)
 file_reads (a ∷ []) program long read = absurd (omega arith)
 file_reads (a ∷ b ∷ lines) program long read = (a, b, lines, refl, subst (λ (w : List ℕ). LinesRead w program) (take_all (length (a ∷ b ∷ lines) - 2) lines (omega arith)) read)
 
-pub file_never : (file : List ℕ) → 2 ≤ length file → ((program : Program) → ¬ (LinesRead (take (length file - 2) (drop 2 file)) program)) → (program : Program) → ¬ (Reads file program)
-unfolding Reads
+pub file_never : (file : List ℕ) → 2 ≤ length file → ((program : Program) → ¬ (LinesRead (take (length file - 2) (drop 2 file)) program)) → (program : Program) → ¬ (ReadsProgram file program)
+unfolding ReadsProgram
 file_never [] long never program read = absurd (omega arith)
 file_never (a ∷ []) long never program read = absurd (omega arith)
 file_never (a ∷ b ∷ lines) long never program (low, high, rest, is, read) =
@@ -223,6 +223,6 @@ unfolding IsListing listing
 listing_of_program [] = refl
 listing_of_program (line ∷ lines) = (expanded_bytes line.bytes, listing lines, listed_by_modes line.bytes, listing_of_program lines, refl)
 
-pub lists_program : (file text : List ℕ) (program : Program) → Reads file program → text ≡ listing program → Lists file text
+pub lists_program : (file text : List ℕ) (program : Program) → ReadsProgram file program → text ≡ listing program → Lists file text
 unfolding Lists
 lists_program file text program read is = (program, read, subst (λ (w : List ℕ). IsListing program w) (sym is) (listing_of_program program))

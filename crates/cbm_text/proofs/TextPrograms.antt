@@ -11,13 +11,13 @@ use Rattle.cbm_text.specs.declared.fault.BasicFault.TheVariants.{NoNumber, Numbe
 use Rattle.cbm_text.specs.Crunching.{Crunched}
 use Rattle.cbm_text.specs.Modes.{CrunchesUpTo}
 use Rattle.cbm_text.specs.Program.{ProgramLine, Program, word, line_layout, lines_layout, address_behind}
-use Rattle.cbm_text.specs.BasicText.{IsLine, IsRead, IsTooLong, HasFault, AreLines, FaultsFirst, IsFileOf, IsFirstFault, IsOfMemory, TellsLine}
+use Rattle.cbm_text.specs.BasicText.{IsLine, IsTextLineRead, IsTooLong, HasFault, AreLines, FaultsFirst, IsFileOf, IsFirstBasicFault, IsBasicOutOfMemory, TellsLine}
 
 -- what has been crunched of a text, and the raw lines that are left: what these give completes the
 -- file, and their first fault is the text's
 pub record ProgramSoFar (start at place : ℕ) (text file : List ℕ) (raws : List (List ℕ)) : Type 0 where
   pub gives : (more : Program) → AreLines at raws more → IsFileOf start text (file ++ lines_layout at more)
-  pub faults : (fault : BasicFault) → FaultsFirst at (place + 1) raws fault → IsFirstFault start text fault
+  pub faults : (fault : BasicFault) → FaultsFirst at (place + 1) raws fault → IsFirstBasicFault start text fault
   pub few : place + length raws ≡ length (lines_of text)
 
 -- before the first line
@@ -96,15 +96,15 @@ so_far_line start at next place text file longer raw old raws line so_far cut ke
 
 -- a line at fault
 pub so_far_fault : (start at place : ℕ) (text file raw : List ℕ) (old raws : List (List ℕ)) (fault : BasicFault) → ProgramSoFar start at place text file old → old ≡ raw ∷ raws → is_skipped (text_of raw) ≡ false
-    → HasFault at (place + 1) (text_of raw) fault → IsFirstFault start text fault
+    → HasFault at (place + 1) (text_of raw) fault → IsFirstBasicFault start text fault
 so_far_fault start at place text file raw old raws fault so_far cut kept here =
     so_far.faults fault (subst (λ (w : List (List ℕ)). FaultsFirst at (place + 1) w fault) (sym cut) (here_faults at (place + 1) raw raws fault kept here))
 
 -- a fault of the line at a place of the text has this place
-pub tells_line : (at place : ℕ) (text line : List ℕ) (fault : BasicFault) → 1 ≤ place → place ≤ length (lines_of text) → IsOfMemory fault ⊎ HasFault at place line fault → TellsLine text fault
+pub tells_line : (at place : ℕ) (text line : List ℕ) (fault : BasicFault) → 1 ≤ place → place ≤ length (lines_of text) → IsBasicOutOfMemory fault ⊎ HasFault at place line fault → TellsLine text fault
 tells_line at place text line fault low high (inl memory) = none fault memory
   where
-    none : (fault : BasicFault) → IsOfMemory fault → TellsLine text fault
+    none : (fault : BasicFault) → IsBasicOutOfMemory fault → TellsLine text fault
     none (NoNumber told) memory = absurd memory
     none (NumberTooLarge told) memory = absurd memory
     none (Text told why) memory = absurd memory
@@ -157,10 +157,10 @@ crunched_short most bytes codes up short = it up.whole
     it (inr long) = absurd (omega (arith, long, short))
 
 -- the faults of such a line
-pub zero_fault : (at place most : ℕ) (text bytes codes : List ℕ) → IsRead text bytes → CrunchesUpTo most bytes codes → Contains bytes 0 → HasFault at place text (ZeroByte place)
+pub zero_fault : (at place most : ℕ) (text bytes codes : List ℕ) → IsTextLineRead text bytes → CrunchesUpTo most bytes codes → Contains bytes 0 → HasFault at place text (ZeroByte place)
 zero_fault at place most text bytes codes read up zero_in = (refl, bytes, codes ++ up.more, record { read = read; crunched = up.crunched }, zero_in)
 
-pub long_fault : (at place most : ℕ) (text bytes codes : List ℕ) → IsRead text bytes → CrunchesUpTo most bytes codes → ¬ (Contains bytes 0) → IsTooLong at codes → HasFault at place text (TooLong place)
+pub long_fault : (at place most : ℕ) (text bytes codes : List ℕ) → IsTextLineRead text bytes → CrunchesUpTo most bytes codes → ¬ (Contains bytes 0) → IsTooLong at codes → HasFault at place text (TooLong place)
 long_fault at place most text bytes codes read up no_zero long = (refl, bytes, codes ++ up.more, record { read = read; crunched = up.crunched }, no_zero, longer long)
   where
     longer : IsTooLong at codes → IsTooLong at (codes ++ up.more)

@@ -14,15 +14,15 @@ use Rattle.script_text.specs.RawLines.{lines_of, text_of, is_skipped}
 use Rattle.script_text.proofs.LineCuts.{lines_of-nil}
 use Rattle.cbm_text.specs.declared.fault.BasicFault.{BasicFault}
 use Rattle.cbm_text.specs.declared.fault.BasicFault.TheVariants.{NoNumber, NumberTooLarge, Text, TokenByte, ZeroByte, TooLong, Memory}
-use Rattle.cbm_text.specs.Kept.{Opener, QuoteMark, RemWord, DataWord, opening, code_of}
-use Rattle.cbm_text.specs.Pieces.{LinePiece, Kept, Token, Question, Single, print_token, crunched_piece, AreCut}
+use Rattle.cbm_text.specs.Kept.{Opener, QuoteMark, RemWord, DataWord, opening, opener_byte}
+use Rattle.cbm_text.specs.Pieces.{LinePiece, Kept, Token, Question, Single, print_token, crunched_piece, ArePieces}
 use Rattle.cbm_text.specs.Keywords.{keywords, token_from}
 use Rattle.cbm_text.specs.Crunching.{question, AreTextPieces, Crunched}
-use Rattle.cbm_text.specs.Program.{ProgramLine, Program, word, address_behind, line_layout, lines_layout, layout, BeginsLine, LinesRead, Reads}
+use Rattle.cbm_text.specs.Program.{ProgramLine, Program, word, address_behind, line_layout, lines_layout, layout, BeginsLine, LinesRead, ReadsProgram}
 use Rattle.cbm_text.specs.Listing.{line_text, IsListing, Lists}
 use Rattle.cbm_text.specs.Modes.{listing}
 use Rattle.cbm_text.specs.TextLine.{line_number, rest_of}
-use Rattle.cbm_text.specs.BasicText.{IsNumbered, IsRead, IsCrunched, IsLine, IsTooLong, HasFault, AreLines, FaultsFirst, IsProgramOf, IsFileOf}
+use Rattle.cbm_text.specs.BasicText.{IsNumbered, IsTextLineRead, IsCrunched, IsLine, IsTooLong, HasFault, AreLines, FaultsFirst, IsProgramOf, IsFileOf}
 use Rattle.cbm_text.specs.NormalText.{AreNormal, IsNormalOf}
 use Rattle.cbm_text.specs.Laws.{HasNoFreeQuestion, ReadsOnce, StandsOnce, TextComesBack}
 use Rattle.cbm_text.proofs.Keywords.{row_of, token_shown}
@@ -55,18 +55,18 @@ zero_test (byte ∷ bytes) none = of_test (nat_eq byte 0) refl (zero_test bytes 
 token_some : (text : List ℕ) (token : ℕ) (rest : List ℕ) → token_from 128 keywords text ≡ Some (token, rest) → has_zero (token ∷ []) ≡ false
 token_some text token rest is = let begins = row_of keywords 128 text token rest is in let high : 128 ≤ token = omega (arith, begins.at) in grind (arith, nat_tests)
 
-opener_some : (opener : Opener) (run : List ℕ) → has_zero run ≡ false → has_zero (code_of opener ∷ run) ≡ false
+opener_some : (opener : Opener) (run : List ℕ) → has_zero run ≡ false → has_zero (opener_byte opener ∷ run) ≡ false
 opener_some QuoteMark run none = none
 opener_some RemWord run none = none
 opener_some DataWord run none = none
 
 pieces_no_zero : (pieces : List LinePiece) (text : List ℕ) → AreTextPieces text pieces → has_zero text ≡ false → has_zero (flat_map crunched_piece pieces) ≡ false
-unfolding AreCut
+unfolding ArePieces
 pieces_no_zero [] text cut none = refl
 pieces_no_zero (Kept opener run ∷ pieces) text (rest, (text_is, kept), others) none =
     let parts = zero_parts (opening opener ++ run) rest (ap (λ (w : List ℕ). has_zero w) (sym text_is) ∙ none) in
     let kept_parts = zero_parts (opening opener) run parts.0 in
-    zero_joined (code_of opener ∷ run) (flat_map crunched_piece pieces) (opener_some opener run kept_parts.1) (pieces_no_zero pieces rest others parts.1)
+    zero_joined (opener_byte opener ∷ run) (flat_map crunched_piece pieces) (opener_some opener run kept_parts.1) (pieces_no_zero pieces rest others parts.1)
 pieces_no_zero (Token token ∷ pieces) text (rest, (no_opener, is), others) none =
     let shown_word = token_shown text token rest is in
     let parts = zero_parts shown_word.0 rest (ap (λ (w : List ℕ). has_zero w) (sym shown_word.2) ∙ none) in
@@ -110,8 +110,8 @@ lines_read at (raw ∷ raws) program (inr (kept, line, more, is, is_line, lines)
     (lines_layout (address_behind at line.bytes) more, begins_layout at (text_of raw) line (lines_layout (address_behind at line.bytes) more) is_line, lines_read (address_behind at line.bytes) raws more lines) in
     subst (λ (p : Program). LinesRead (lines_layout at p) p) (sym is) whole
 
-layout_reads : (start : ℕ) (text : List ℕ) (program : Program) → IsProgramOf start text program → Reads (layout start program) program
-unfolding Reads
+layout_reads : (start : ℕ) (text : List ℕ) (program : Program) → IsProgramOf start text program → ReadsProgram (layout start program) program
+unfolding ReadsProgram
 layout_reads start text program lines = (start % 256, start / 256, lines_layout start program, refl, lines_read start (lines_of text) program lines)
 
 -- ---- one program
@@ -147,8 +147,8 @@ lines_once bytes (line ∷ program) (line' ∷ other) (rest, begins, read) (rest
     let behind : rest' ≡ rest = rest_once bytes line' line rest' rest begins' begins in
     ap (λ (p : Program). line ∷ p) (lines_once rest program other read (subst (λ (w : List ℕ). LinesRead w other) behind read')) ∙ ap (λ (l : ProgramLine). l ∷ other) (line_once bytes line line' rest rest' begins begins')
 
-program_once : (file : List ℕ) (program other : Program) → Reads file program → Reads file other → program ≡ other
-unfolding Reads
+program_once : (file : List ℕ) (program other : Program) → ReadsProgram file program → ReadsProgram file other → program ≡ other
+unfolding ReadsProgram
 program_once file program other (low, high, lines, is, read) (low', high', lines', is', read') =
     let same : low ∷ high ∷ lines ≡ low' ∷ high' ∷ lines' = sym is ∙ is' in
     let behind : lines' ≡ lines = sym (ap (λ (w : List ℕ). drop 2 w) same) in
@@ -202,13 +202,13 @@ fits_not : (text : List ℕ) → IsNumbered text → ¬ (2 ^ 16 ≤ line_number 
 fits_not text numbered large = let small = numbered.small in omega arith
 
 -- bytes that crunch to nothing are not those of a line that crunches
-never_not : (text bytes other codes : List ℕ) → IsRead text bytes → ((all : List ℕ) → ¬ (Crunched bytes all)) → ¬ (IsCrunched text other codes)
+never_not : (text bytes other codes : List ℕ) → IsTextLineRead text bytes → ((all : List ℕ) → ¬ (Crunched bytes all)) → ¬ (IsCrunched text other codes)
 never_not text bytes other codes read never crunched_is =
     let same : other ≡ bytes = one_reading (rest_of text) other bytes crunched_is.read.read read.read in
     never codes (subst (λ (w : List ℕ). Crunched w codes) same crunched_is.crunched)
 
 -- a line with a $00 is not one without
-zero_not : (text bytes other : List ℕ) → IsRead text bytes → Contains bytes 0 → IsRead text other → ¬ (¬ (Contains other 0))
+zero_not : (text bytes other : List ℕ) → IsTextLineRead text bytes → Contains bytes 0 → IsTextLineRead text other → ¬ (¬ (Contains other 0))
 zero_not text bytes other read zero_in read' no_zero =
     let same : bytes ≡ other = one_reading (rest_of text) bytes other read.read read'.read in
     no_zero (subst (λ (w : List ℕ). Contains w 0) same zero_in)
@@ -356,7 +356,7 @@ normal_program at (raw ∷ raws) program normal (inr (kept, line, more, is, is_l
 pub text_comes_back : (start : ℕ) (text : List ℕ) → TextComesBack start text
 unfolding IsFileOf Lists
 text_comes_back start text file plain (program, lines, is) =
-    let read : Reads file program = subst (λ (w : List ℕ). Reads w program) (sym is) (layout_reads start text program lines) in
+    let read : ReadsProgram file program = subst (λ (w : List ℕ). ReadsProgram w program) (sym is) (layout_reads start text program lines) in
     let normal = normal_of read in
     record {
       listed = (listing program, (program, read, listing_of_program program));
@@ -364,5 +364,5 @@ text_comes_back start text file plain (program, lines, is) =
       again = λ text' lists. (program, normal_program start (lines_of text) program text' lines (normal text' lists), is);
     }
   where
-    normal_of : Reads file program → (text' : List ℕ) → Lists file text' → IsNormalOf text text'
+    normal_of : ReadsProgram file program → (text' : List ℕ) → Lists file text' → IsNormalOf text text'
     normal_of read text' (program', read', lists) = normal_listing start (lines_of text) program text' plain lines (subst (λ (p : Program). IsListing p text') (program_once file program' program read' read) lists)

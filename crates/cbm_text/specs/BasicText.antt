@@ -22,13 +22,13 @@ pub record IsNumbered (text : List ℕ) : Type 0 where
   pub small : line_number text < 2 ^ 16
 
 -- The text line has a number that fits, and the rest of it stands for bytes.
-pub record IsRead (text bytes : List ℕ) : Type 0 where
+pub record IsTextLineRead (text bytes : List ℕ) : Type 0 where
   pub numbered : IsNumbered text
   pub read : IsTextOf bytes (rest_of text)
 
 -- The text line has such bytes, and they crunch.
 pub record IsCrunched (text bytes codes : List ℕ) : Type 0 where
-  pub read : IsRead text bytes
+  pub read : IsTextLineRead text bytes
   pub crunched : Crunched bytes codes
 
 -- A line of these crunched bytes at an address is too long, or the link behind it is above 65535.
@@ -48,8 +48,8 @@ pub record IsLine (at : ℕ) (text : List ℕ) (line : ProgramLine) : Type 0 whe
 abbrev pub HasFault : ℕ → ℕ → List ℕ → BasicFault → Type 0
 HasFault at number text (NoNumber line) = (line ≡ number) × (number_digits text ≡ [])
 HasFault at number text (NumberTooLarge line) = (line ≡ number) × (number_digits text ≢ []) × (2 ^ 16 ≤ line_number text)
-HasFault at number text (Text line fault) = (line ≡ number) × IsNumbered text × text_faults.IsFirstFault (rest_of text) fault
-HasFault at number text (TokenByte line) = (line ≡ number) × (bytes : List ℕ) × IsRead text bytes × ((codes : List ℕ) → ¬ (Crunched bytes codes))
+HasFault at number text (Text line fault) = (line ≡ number) × IsNumbered text × text_faults.IsFirstTextFault (rest_of text) fault
+HasFault at number text (TokenByte line) = (line ≡ number) × (bytes : List ℕ) × IsTextLineRead text bytes × ((codes : List ℕ) → ¬ (Crunched bytes codes))
 HasFault at number text (ZeroByte line) = (line ≡ number) × (bytes codes : List ℕ) × IsCrunched text bytes codes × Contains bytes 0
 HasFault at number text (TooLong line) = (line ≡ number) × (bytes codes : List ℕ) × IsCrunched text bytes codes × ¬ (Contains bytes 0) × IsTooLong at codes
 HasFault at number text (Memory error) = ⊥
@@ -78,34 +78,34 @@ unfoldable pub IsFileOf : ℕ → List ℕ → List ℕ → Type 0
 IsFileOf start text file = (program : Program) × IsProgramOf start text program × (file ≡ layout start program)
 
 -- The first fault of the first faulty line, lines counted from 1.
-abbrev pub IsFirstFault : ℕ → List ℕ → BasicFault → Type 0
-IsFirstFault start text fault = FaultsFirst start 1 (lines_of text) fault
+abbrev pub IsFirstBasicFault : ℕ → List ℕ → BasicFault → Type 0
+IsFirstBasicFault start text fault = FaultsFirst start 1 (lines_of text) fault
 
 -- The fault is that there was no memory.
-abbrev pub IsOfMemory : BasicFault → Type 0
-IsOfMemory (Memory error) = Unit {0}
-IsOfMemory fault = ⊥
+abbrev pub IsBasicOutOfMemory : BasicFault → Type 0
+IsBasicOutOfMemory (Memory error) = Unit {0}
+IsBasicOutOfMemory fault = ⊥
 
 -- The numbers of the faults, and the text line of each.
-abbrev pub fault_number : BasicFault → ℕ
-fault_number (NoNumber line) = 1
-fault_number (NumberTooLarge line) = 2
-fault_number (Text line fault) = 3
-fault_number (TokenByte line) = 4
-fault_number (ZeroByte line) = 5
-fault_number (TooLong line) = 6
-fault_number (Memory error) = 7
+abbrev pub basic_fault_number : BasicFault → ℕ
+basic_fault_number (NoNumber line) = 1
+basic_fault_number (NumberTooLarge line) = 2
+basic_fault_number (Text line fault) = 3
+basic_fault_number (TokenByte line) = 4
+basic_fault_number (ZeroByte line) = 5
+basic_fault_number (TooLong line) = 6
+basic_fault_number (Memory error) = 7
 
-abbrev pub fault_line : BasicFault → Option ℕ
-fault_line (NoNumber line) = Some line
-fault_line (NumberTooLarge line) = Some line
-fault_line (Text line fault) = Some line
-fault_line (TokenByte line) = Some line
-fault_line (ZeroByte line) = Some line
-fault_line (TooLong line) = Some line
-fault_line (Memory error) = None
+abbrev pub basic_fault_line : BasicFault → Option ℕ
+basic_fault_line (NoNumber line) = Some line
+basic_fault_line (NumberTooLarge line) = Some line
+basic_fault_line (Text line fault) = Some line
+basic_fault_line (TokenByte line) = Some line
+basic_fault_line (ZeroByte line) = Some line
+basic_fault_line (TooLong line) = Some line
+basic_fault_line (Memory error) = None
 
 -- The line of a fault is one of the text's lines, the first of which is 1, and a text has no more
 -- lines than bytes. The fault that memory is out has no line.
 abbrev pub TellsLine : List ℕ → BasicFault → Type 0
-TellsLine text fault = MatchOption (fault_line fault) (IsOfMemory fault) (λ line. (1 ≤ line) × (line ≤ length (lines_of text)) × (line ≤ length text))
+TellsLine text fault = MatchOption (basic_fault_line fault) (IsBasicOutOfMemory fault) (λ line. (1 ≤ line) × (line ≤ length (lines_of text)) × (line ≤ length text))

@@ -3,7 +3,7 @@ use Rattle.std.specs.Prelude.{◌≡◌, ◌≢◌, ℕ, ◌<◌, ◌⊎◌, fal
 use Rattle.std.specs.List.{starts_with, flat_map}
 use Rattle.cbm_text.specs.Keywords.{keywords, token_from}
 use Rattle.cbm_text.specs.Kept.{Opener, opening, IsKept}
-use Rattle.cbm_text.specs.Pieces.{LinePiece, Kept, Token, Question, Single, AreCut, crunched_piece}
+use Rattle.cbm_text.specs.Pieces.{LinePiece, Kept, Token, Question, Single, ArePieces, crunched_piece}
 
 -- `?`
 abbrev pub question : ℕ
@@ -29,7 +29,7 @@ TextBegins text (Single byte) rest =
 
 -- The text is these pieces, one after the other.
 abbrev pub AreTextPieces : List ℕ → List LinePiece → Type 0
-AreTextPieces text pieces = AreCut TextBegins text pieces
+AreTextPieces text pieces = ArePieces TextBegins text pieces
 
 -- The bytes of a line crunch to these.
 unfoldable pub Crunched : List ℕ → List ℕ → Type 0

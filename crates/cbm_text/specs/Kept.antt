@@ -29,10 +29,10 @@ opening QuoteMark = codes "\""
 opening RemWord = codes "REM"
 opening DataWord = codes "DATA"
 
-abbrev pub code_of : Opener → ℕ
-code_of QuoteMark = quote
-code_of RemWord = rem_token
-code_of DataWord = data_token
+abbrev pub opener_byte : Opener → ℕ
+opener_byte QuoteMark = quote
+opener_byte RemWord = rem_token
+opener_byte DataWord = data_token
 
 -- How many quote marks there are in some bytes.
 abbrev pub quotes_in : List ℕ → ℕ

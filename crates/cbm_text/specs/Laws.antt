@@ -5,10 +5,10 @@ use Rattle.script_text.specs.RawLines.{lines_of, text_of, is_skipped}
 use Rattle.cbm_text.specs.declared.fault.BasicFault.{BasicFault}
 use Rattle.cbm_text.specs.Pieces.{LinePiece, Question}
 use Rattle.cbm_text.specs.Crunching.{AreTextPieces, Crunched}
-use Rattle.cbm_text.specs.Program.{Program, Reads}
+use Rattle.cbm_text.specs.Program.{Program, ReadsProgram}
 use Rattle.cbm_text.specs.Listing.{Listed, Lists}
 use Rattle.cbm_text.specs.TextLine.{rest_of}
-use Rattle.cbm_text.specs.BasicText.{IsProgramOf, IsFileOf, IsFirstFault}
+use Rattle.cbm_text.specs.BasicText.{IsProgramOf, IsFileOf, IsFirstBasicFault}
 use Rattle.cbm_text.specs.NormalText.{IsNormalOf}
 
 -- ---- lines
@@ -34,7 +34,7 @@ ComesBack text codes = HasNoFreeQuestion text → Crunched text codes → Listed
 
 -- A file reads as at most one program, and has at most one listing.
 pub record ReadsOnce (file : List ℕ) : Type 0 where
-  pub program : (program other : Program) → Reads file program → Reads file other → program ≡ other
+  pub program : (program other : Program) → ReadsProgram file program → ReadsProgram file other → program ≡ other
   pub listing : (text other : List ℕ) → Lists file text → Lists file other → text ≡ other
 
 -- A text stands for at most one program and has at most one file, no fault if it has a file, and at
@@ -42,8 +42,8 @@ pub record ReadsOnce (file : List ℕ) : Type 0 where
 pub record StandsOnce (start : ℕ) (text : List ℕ) : Type 0 where
   pub program : (program other : Program) → IsProgramOf start text program → IsProgramOf start text other → program ≡ other
   pub file : (file other : List ℕ) → IsFileOf start text file → IsFileOf start text other → file ≡ other
-  pub no_fault : (file : List ℕ) (fault : BasicFault) → IsFileOf start text file → ¬ (IsFirstFault start text fault)
-  pub fault : (fault other : BasicFault) → IsFirstFault start text fault → IsFirstFault start text other → fault ≡ other
+  pub no_fault : (file : List ℕ) (fault : BasicFault) → IsFileOf start text file → ¬ (IsFirstBasicFault start text fault)
+  pub fault : (fault other : BasicFault) → IsFirstBasicFault start text fault → IsFirstBasicFault start text other → fault ≡ other
 
 -- No `?` stands for `print` in the lines of a text.
 abbrev pub LinesHaveNoFreeQuestion : List ℕ → Type 0

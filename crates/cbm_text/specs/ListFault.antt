@@ -2,13 +2,13 @@
 use Rattle.std.specs.Prelude.{ℕ, ◌<◌, ◌≤◌, List, length, codes}
 use Rattle.cbm_text.specs.declared.fault.ListFault.{ListFault}
 use Rattle.cbm_text.specs.declared.fault.ListFault.TheVariants.{NoAddress, Truncated, Memory}
-use Rattle.cbm_text.specs.Program.{Program, Reads}
+use Rattle.cbm_text.specs.Program.{Program, ReadsProgram}
 
 -- The bytes have this fault: fewer than two have no load address, and all others that read as no
 -- program are cut short.
 abbrev pub ListsNot : List ℕ → ListFault → Type 0
 ListsNot file NoAddress = length file < 2
-ListsNot file Truncated = (2 ≤ length file) × ((program : Program) → ¬ (Reads file program))
+ListsNot file Truncated = (2 ≤ length file) × ((program : Program) → ¬ (ReadsProgram file program))
 ListsNot file (Memory error) = 2 ≤ length file
 
 -- The numbers of the faults.

@@ -3,25 +3,25 @@ use Rattle.std.specs.Prelude.{◌≡◌, ◌≢◌, ℕ, List, [], ◌∷◌, �
 use Rattle.std.specs.List.{flat_map}
 use Rattle.petscii.specs.Spelling.{spelling}
 use Rattle.cbm_text.specs.Keywords.{keyword}
-use Rattle.cbm_text.specs.Kept.{Opener, code_of, IsKept}
-use Rattle.cbm_text.specs.Pieces.{LinePiece, Kept, Token, Question, Single, AreCut, written_piece}
-use Rattle.cbm_text.specs.Program.{Program, Reads}
+use Rattle.cbm_text.specs.Kept.{Opener, opener_byte, IsKept}
+use Rattle.cbm_text.specs.Pieces.{LinePiece, Kept, Token, Question, Single, ArePieces, written_piece}
+use Rattle.cbm_text.specs.Program.{Program, ReadsProgram}
 
 -- The crunched byte opens no run.
 abbrev pub IsNoOpener : ℕ → Type 0
-IsNoOpener code = (opener : Opener) → code ≢ code_of opener
+IsNoOpener code = (opener : Opener) → code ≢ opener_byte opener
 
 -- The first piece of crunched bytes, and what follows it. If an opener is there, it is the opener
 -- and the run that is kept behind it; else the token of a keyword; else one byte.
 abbrev pub CodesBegin : List ℕ → LinePiece → List ℕ → Type 0
-CodesBegin codes (Kept opener run) rest = (codes ≡ code_of opener ∷ run ++ rest) × IsKept opener run rest
+CodesBegin codes (Kept opener run) rest = (codes ≡ opener_byte opener ∷ run ++ rest) × IsKept opener run rest
 CodesBegin codes (Token token) rest = IsNoOpener token × (keyword token ≢ None) × (codes ≡ token ∷ rest)
 CodesBegin codes Question rest = ⊥
 CodesBegin codes (Single byte) rest = IsNoOpener byte × (keyword byte ≡ None) × (codes ≡ byte ∷ rest)
 
 -- The crunched bytes are these pieces, one after the other.
 abbrev pub AreCodePieces : List ℕ → List LinePiece → Type 0
-AreCodePieces codes pieces = AreCut CodesBegin codes pieces
+AreCodePieces codes pieces = ArePieces CodesBegin codes pieces
 
 -- The crunched bytes of a line stand for these bytes.
 unfoldable pub Listed : List ℕ → List ℕ → Type 0
@@ -38,4 +38,4 @@ IsListing (line ∷ lines) text = (bytes rest : List ℕ) × Listed line.bytes b
 
 -- The text lists the program that the file reads as.
 unfoldable pub Lists : List ℕ → List ℕ → Type 0
-Lists file text = (program : Program) × Reads file program × IsListing program text
+Lists file text = (program : Program) × ReadsProgram file program × IsListing program text

@@ -2,7 +2,7 @@
 use Rattle.std.specs.Prelude.{◌≡◌, ℕ, List, [], ◌∷◌, ◌++◌, codes}
 use Rattle.std.specs.Option.{option_map_or}
 use Rattle.cbm_text.specs.Keywords.{keyword}
-use Rattle.cbm_text.specs.Kept.{Opener, opening, code_of}
+use Rattle.cbm_text.specs.Kept.{Opener, opening, opener_byte}
 
 -- A piece of a line: an opener and the run that is kept behind it; another keyword, by its token; a
 -- `?`, which is short for `print`; or another byte.
@@ -25,13 +25,13 @@ written_piece (Single byte) = byte ∷ []
 
 -- The crunched bytes of a piece in a program.
 abbrev pub crunched_piece : LinePiece → List ℕ
-crunched_piece (Kept opener run) = code_of opener ∷ run
+crunched_piece (Kept opener run) = opener_byte opener ∷ run
 crunched_piece (Token token) = token ∷ []
 crunched_piece Question = print_token ∷ []
 crunched_piece (Single byte) = byte ∷ []
 
 -- Bytes are these pieces, one after the other, by a relation of the bytes to their first piece and
 -- what follows it.
-unfoldable pub AreCut : (List ℕ → LinePiece → List ℕ → Type 0) → List ℕ → List LinePiece → Type 0
-AreCut Begins bytes [] = bytes ≡ []
-AreCut Begins bytes (piece ∷ pieces) = (rest : List ℕ) × Begins bytes piece rest × AreCut Begins rest pieces
+unfoldable pub ArePieces : (List ℕ → LinePiece → List ℕ → Type 0) → List ℕ → List LinePiece → Type 0
+ArePieces Begins bytes [] = bytes ≡ []
+ArePieces Begins bytes (piece ∷ pieces) = (rest : List ℕ) × Begins bytes piece rest × ArePieces Begins rest pieces

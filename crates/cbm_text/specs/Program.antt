@@ -48,5 +48,5 @@ LinesRead bytes [] = (behind : List ℕ) × (bytes ≡ 0 ∷ 0 ∷ behind)
 LinesRead bytes (line ∷ lines) = (rest : List ℕ) × BeginsLine bytes line rest × LinesRead rest lines
 
 -- The file reads as the program: its lines come after any two bytes.
-unfoldable pub Reads : List ℕ → Program → Type 0
-Reads file program = (low high : ℕ) × (lines : List ℕ) × (file ≡ low ∷ high ∷ lines) × LinesRead lines program
+unfoldable pub ReadsProgram : List ℕ → Program → Type 0
+ReadsProgram file program = (low high : ℕ) × (lines : List ℕ) × (file ≡ low ∷ high ∷ lines) × LinesRead lines program

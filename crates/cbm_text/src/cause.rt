@@ -2,7 +2,7 @@
 
 ghost use Rattle.std.specs.Prelude.{◌≡◌, ◌≤◌, ◌++◌, ℕ, List, length, IfOk, IfErr, None, OnOk, nat_eq, drop, position};
 ghost use Rattle.std.specs.List.{before_first};
-ghost use Rattle.petscii.specs.TextFault.{IsOfMemory};
+ghost use Rattle.petscii.specs.TextFault.{IsTextOutOfMemory};
 ghost use Rattle.petscii.specs.TextForm.{IsTextOf, close_brace};
 ghost use Rattle.cbm_text.specs.Causes.{IsCause, IsTokenCause, byte_in, cause_byte, cause_text, cause_words, character_cause, letter_cause, is_numbered, name_cause, other_names, small_name_cause, text_cause, text_name_cause};
 
@@ -289,7 +289,7 @@ fn token_cause(alloc: Global, text: &[u8]) -> Result<Cause, AllocError>
 
 /// The error of a fault that says that memory is out.
 fn want_of_memory(fault: TextFault) -> Option<AllocError>
-    ensures { result ≡ None → IsOfMemory fault → ⊥ }
+    ensures { result ≡ None → IsTextOutOfMemory fault → ⊥ }
 {
     match fault {
         TextFault::Memory(error) => Some(error),

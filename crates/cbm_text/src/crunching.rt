@@ -1,7 +1,7 @@
 //! BASIC texts as program files.
 
 ghost use Rattle.std.specs.Prelude.{◌≡◌, ◌⊎◌, ◌++◌, ℕ, IfOk, IfErr, MatchResult, ◌<◌};
-ghost use Rattle.cbm_text.specs.BasicText.{IsFileOf, IsFirstFault, IsOfMemory, IsLine, HasFault, TellsLine};
+ghost use Rattle.cbm_text.specs.BasicText.{IsFileOf, IsFirstBasicFault, IsBasicOutOfMemory, IsLine, HasFault, TellsLine};
 ghost use Rattle.cbm_text.specs.Program.{ProgramLine, line_layout, address_behind};
 
 use crate::codes::{MOST_BYTES, crunch_bytes};
@@ -29,7 +29,7 @@ const AROUND_BYTES: usize = 5;
 /// length.
 pub fn crunch(alloc: Global, start: u16, text: &[u8]) -> Result<Vec<u8>, BasicFault>
     ensures crunched { IfOk result (λ file. IsFileOf start text.now file.items) }
-    ensures fault { IfErr result (λ fault. IsOfMemory fault ⊎ IsFirstFault start text.now fault) }
+    ensures fault { IfErr result (λ fault. IsBasicOutOfMemory fault ⊎ IsFirstBasicFault start text.now fault) }
     ensures place { IfErr result (TellsLine text.now) }
 {
     let mut file = Vec::with_capacity(alloc, text.len())?;
@@ -60,7 +60,7 @@ pub(crate) fn push_text_line(
 ) -> Result<u16, BasicFault>
     ensures line { IfOk result (λ next. (line : ProgramLine) × IsLine at text.now line × (next ≡ address_behind at line.bytes)
         × (file.new.items ≡ file.old.items ++ line_layout at line)) }
-    ensures fault { IfErr result (λ fault. IsOfMemory fault ⊎ HasFault at place text.now fault) }
+    ensures fault { IfErr result (λ fault. IsBasicOutOfMemory fault ⊎ HasFault at place text.now fault) }
 {
     let (number, rest) = split_number(text, place)?;
     let bytes = match from_text(alloc, rest) {

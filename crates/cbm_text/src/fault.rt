@@ -3,7 +3,7 @@
 ghost use Rattle.std.specs.Prelude.{◌≡◌, alloc_error};
 ghost use Rattle.cbm_text.specs.declared.fault.BasicFault.TheVariants.{Memory};
 ghost use Rattle.cbm_text.specs.declared.fault.ListFault.TheVariants as list_faults;
-ghost use Rattle.cbm_text.specs.BasicText.{fault_number, fault_line};
+ghost use Rattle.cbm_text.specs.BasicText.{basic_fault_number, basic_fault_line};
 ghost use Rattle.cbm_text.specs.ListFault.{list_fault_number, list_fault_text};
 
 use petscii::TextFault;
@@ -40,7 +40,7 @@ pub enum BasicFault {
 impl BasicFault {
     /// The fault's number: 1 to 7 in the order of the variants.
     pub fn number(&self) -> u8
-        ensures { result ≡ fault_number self.now }
+        ensures { result ≡ basic_fault_number self.now }
     {
         match self {
             BasicFault::NoNumber { .. } => 1,
@@ -55,7 +55,7 @@ impl BasicFault {
 
     /// The number of the faulty text line, from 1, or None if memory is out.
     pub fn line(&self) -> Option<usize>
-        ensures { result ≡ fault_line self.now }
+        ensures { result ≡ basic_fault_line self.now }
     {
         match self {
             BasicFault::NoNumber { line }

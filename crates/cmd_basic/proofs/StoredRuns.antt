@@ -8,8 +8,8 @@ use Rattle.host_storage.specs.Files.{HostState}
 use Rattle.host_storage.specs.declared.host.HostFault.{HostFault}
 use Rattle.host_storage.specs.declared.host.HostFault.TheVariants as files
 use Rattle.program_console.specs.Outside.{Outside, outside_of}
-use Rattle.out_messages.specs.Words.{count_of}
-use Rattle.cmd_basic.specs.RefusedText.{faulty_line, more_lines, most_lines, refused_text}
+use Rattle.out_messages.specs.Words.{counted_text}
+use Rattle.cmd_basic.specs.RefusedText.{faulty_line, more_lines, most_refused_lines, refused_text}
 use Rattle.cmd_basic.specs.ToolRuns.{EndedToolTo, RanToolOn, ReportsStored, TakesInput}
 use Rattle.cmd_basic.specs.Tools.{HasStored, Refuses, answer_of_store, fault_of_store}
 use Rattle.cmd_basic.specs.declared.tools.Tool.{Tool}
@@ -78,19 +78,19 @@ stored_not_read tool input target old new answer (inr (fault, refuses, is, kept)
 
 -- what is printed of faulty lines, part by part
 pub refused_parts : (name : Option (List ℕ)) (all kept : List FaultyLine) (count : ℕ) (none lines out : List ℕ) → none ≡ [] → lines ≡ none ++ flat_map (faulty_line name) kept
-    → out ≡ lines ++ more_lines count → kept ≡ take most_lines all → count ≡ length all → out ≡ refused_text name all
+    → out ≡ lines ++ more_lines count → kept ≡ take most_refused_lines all → count ≡ length all → out ≡ refused_text name all
 unfolding refused_text
 refused_parts name all kept count none lines out empty added more first counted =
     more
     ∙ ap (λ (l : List ℕ). l ++ more_lines count) (added ∙ ap (λ (o : List ℕ). o ++ flat_map (faulty_line name) kept) empty ∙ ap (λ (ls : List FaultyLine). flat_map (faulty_line name) ls) first)
-    ∙ ap (λ (n : ℕ). flat_map (faulty_line name) (take most_lines all) ++ more_lines n) counted
+    ∙ ap (λ (n : ℕ). flat_map (faulty_line name) (take most_refused_lines all) ++ more_lines n) counted
 
 -- how many are not printed, part by part
-pub more_parts : (count : ℕ) (old first second out : List ℕ) → nat_le count most_lines ≡ false → first ≡ old ++ codes "    and "
-    → second ≡ first ++ count_of (count - most_lines) (codes "more faulty line") → out ≡ second ++ codes "\n" → out ≡ old ++ more_lines count
+pub more_parts : (count : ℕ) (old first second out : List ℕ) → nat_le count most_refused_lines ≡ false → first ≡ old ++ codes "    and "
+    → second ≡ first ++ counted_text (count - most_refused_lines) (codes "more faulty line") → out ≡ second ++ codes "\n" → out ≡ old ++ more_lines count
 unfolding more_lines
 more_parts count old first second out many begun counted ended =
-    let number = count_of (count - most_lines) (codes "more faulty line") in
+    let number = counted_text (count - most_refused_lines) (codes "more faulty line") in
     ended ∙ ap (λ (o : List ℕ). o ++ codes "\n") (counted ∙ ap (λ (o : List ℕ). o ++ number) begun)
     ∙ append_assoc (old ++ codes "    and ") number (codes "\n")
     ∙ append_assoc old (codes "    and ") (number ++ codes "\n")

@@ -10,8 +10,8 @@ abbrev pub input_name : Option (List ℕ) → List ℕ
 input_name name = unwrap_or name (codes "-")
 
 -- the place of a refusal: the input, and the number of the refused line, if it is one line
-abbrev pub place_of : Option (List ℕ) → Option ℕ → List ℕ
-place_of name line = shown_name (input_name name) ++ option_map_or (λ number. codes ":" ++ decimal number) line []
+abbrev pub refusal_place : Option (List ℕ) → Option ℕ → List ℕ
+refusal_place name line = shown_name (input_name name) ++ option_map_or (λ number. codes ":" ++ decimal number) line []
 
 -- the text of a status: its line without the line feed
 abbrev pub status_text : Status → List ℕ
@@ -19,4 +19,4 @@ status_text status = take (length (status_line status) - 1) (status_line status)
 
 -- the line of a refusal: its place, the status, and what is wrong
 unfoldable pub refusal_line : Option (List ℕ) → Option ℕ → Status → List ℕ → List ℕ
-refusal_line name line status text = place_of name line ++ (codes ": " ++ (status_text status ++ (codes ": " ++ (text ++ codes "\n"))))
+refusal_line name line status text = refusal_place name line ++ (codes ": " ++ (status_text status ++ (codes ": " ++ (text ++ codes "\n"))))

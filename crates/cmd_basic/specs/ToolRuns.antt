@@ -51,14 +51,14 @@ RanToolOn tool (Some name) old new answer = (new.reader ≡ old.reader)
 -- how a tool's result is reported: status 0 and no line if it wrote its output; 1 and a status
 -- line, whole unless writing it failed, if it refused its input; and otherwise 2 and the line of a
 -- fault
-abbrev pub ReportsResult : {A : Type 0} → Result A ToolFault → Account → Account → ℕ → Type 0
-ReportsResult (Ok done) faults reported status = (status ≡ 0) × (reported ≡ faults)
-ReportsResult (Err (tool_faults.Text fault)) faults reported status =
+abbrev pub ReportsToolResult : {A : Type 0} → Result A ToolFault → Account → Account → ℕ → Type 0
+ReportsToolResult (Ok done) faults reported status = (status ≡ 0) × (reported ≡ faults)
+ReportsToolResult (Err (tool_faults.Text fault)) faults reported status =
     (status ≡ 1) × Writes faults reported (status_line (status_of_basic fault))
-ReportsResult (Err (tool_faults.NotBasic fault)) faults reported status = (status ≡ 1) × Writes faults reported (status_line (status_of_listing fault))
-ReportsResult (Err tool_faults.Read) faults reported status = Reports Read faults reported status
-ReportsResult (Err tool_faults.Write) faults reported status = Reports Write faults reported status
-ReportsResult (Err (tool_faults.Memory error)) faults reported status = Reports Memory faults reported status
+ReportsToolResult (Err (tool_faults.NotBasic fault)) faults reported status = (status ≡ 1) × Writes faults reported (status_line (status_of_listing fault))
+ReportsToolResult (Err tool_faults.Read) faults reported status = Reports Read faults reported status
+ReportsToolResult (Err tool_faults.Write) faults reported status = Reports Write faults reported status
+ReportsToolResult (Err (tool_faults.Memory error)) faults reported status = Reports Memory faults reported status
 
 -- a tool has taken its input, of the standard input or of the host file with this name; or it could
 -- not, by this fault
@@ -75,9 +75,9 @@ StoresTaken tool (Ok bytes) target old new answer = HasStored tool bytes target 
 StoresTaken tool (Err fault) target old new answer = (answer ≡ Err fault) × (new ≡ old)
 
 -- the bytes of a tool's input, if it has taken them
-abbrev pub bytes_of : Result (List ℕ) ToolFault → List ℕ
-bytes_of (Ok bytes) = bytes
-bytes_of (Err fault) = []
+abbrev pub input_bytes_of : Result (List ℕ) ToolFault → List ℕ
+input_bytes_of (Ok bytes) = bytes
+input_bytes_of (Err fault) = []
 
 -- a tool that has taken these bytes has run on the input, or on the host file with this name, to
 -- the target file; nothing was printed
@@ -89,8 +89,8 @@ pub record RanToolTo (tool : Tool) (name : Option (List ℕ)) (target : List ℕ
 
 -- the faulty lines of a text whose program is loaded at an address are reported, with status 1; or
 -- memory ran out
-abbrev pub ReportsText : Option (List ℕ) → ℕ → List ℕ → Account → Account → ℕ → Type 0
-ReportsText name start text faults reported status =
+abbrev pub ReportsFaultyLines : Option (List ℕ) → ℕ → List ℕ → Account → Account → ℕ → Type 0
+ReportsFaultyLines name start text faults reported status =
     ((status ≡ 1) × (lines : List FaultyLine) × AreFaultyIn start text lines × Writes faults reported (refused_text name lines)) ⊎ Reports Memory faults reported status
 
 -- why an input is no program is reported, with status 1; or memory ran out
@@ -109,7 +109,7 @@ ReportsUnwritten target all faults reported status =
 -- then
 abbrev pub ReportsStored : {A : Type 0} → Tool → Option (List ℕ) → List ℕ → List ℕ → Option Files → Result A ToolFault → Account → Account → ℕ → Type 0
 ReportsStored tool name bytes target all (Ok done) faults reported status = (status ≡ 0) × (reported ≡ faults)
-ReportsStored tool name bytes target all (Err (tool_faults.Text fault)) faults reported status = ReportsText name (start_of tool) bytes faults reported status
+ReportsStored tool name bytes target all (Err (tool_faults.Text fault)) faults reported status = ReportsFaultyLines name (start_of tool) bytes faults reported status
 ReportsStored tool name bytes target all (Err (tool_faults.NotBasic fault)) faults reported status = ReportsProgram name fault faults reported status
 ReportsStored tool name bytes target all (Err tool_faults.Read) faults reported status = Reports Read faults reported status
 ReportsStored tool name bytes target all (Err tool_faults.Write) faults reported status = ReportsUnwritten target all faults reported status
@@ -120,14 +120,14 @@ ReportsStored tool name bytes target all (Err (tool_faults.Memory error)) faults
 abbrev pub EndedToolTo : Tool → Option (List ℕ) → List ℕ → Outside → Outside → ℕ → Type 0
 EndedToolTo tool name target old new status =
     (taken : Result (List ℕ) ToolFault) × (answer : Result (Unit {0}) ToolFault) × RanToolTo tool name target taken old new answer
-    × (name ≡ None → answer ≡ Err tool_faults.Read → IsUnreadable new.reading) × ReportsStored tool name (bytes_of taken) target new.host.files answer old.error new.error status
+    × (name ≡ None → answer ≡ Err tool_faults.Read → IsUnreadable new.reading) × ReportsStored tool name (input_bytes_of taken) target new.host.files answer old.error new.error status
 
 -- how a tool ended that prints its result; it reports a fault of reading its input, or of writing,
 -- only if the input cannot be read to its end, or a write or a flush has failed
 abbrev pub EndedTool : Tool → Option (List ℕ) → Outside → Outside → ℕ → Type 0
 EndedTool tool name old new status =
     (answer : Result (Unit {0}) ToolFault) × RanToolOn tool name old new answer
-    × (name ≡ None → ReadsWith answer new.reading) × WritesWith answer old.output.has_failed new.output.has_failed × ReportsResult answer old.error new.error status
+    × (name ≡ None → ReadsWith answer new.reading) × WritesWith answer old.output.has_failed new.output.has_failed × ReportsToolResult answer old.error new.error status
 
 -- how a tool ended whose result goes to the output, or to the host file with this name
 abbrev pub EndedConversion : Tool → Option (List ℕ) → Option (List ℕ) → Outside → Outside → ℕ → Type 0

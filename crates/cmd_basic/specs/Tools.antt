@@ -1,7 +1,7 @@
 -- What the tools make of an input, and what they write.
 use Rattle.std.specs.Prelude.{◌≡◌, ◌⊎◌, ℕ, ◌<◌, ◌≤◌, ◌^◌, Bool, true, false, List, length, Option, IfSome, Result, Ok, Err, ⊤}
 use Rattle.std.specs.Io.KnownBytes.{Appends, Consumes, IsAtEnd, Keeps}
-use Rattle.cbm_text.specs.BasicText.{IsFileOf, IsFirstFault, TellsLine, fault_line}
+use Rattle.cbm_text.specs.BasicText.{IsFileOf, IsFirstBasicFault, TellsLine, basic_fault_line}
 use Rattle.cbm_text.specs.Listing.{Lists}
 use Rattle.cbm_text.specs.ListFault.{ListsNot}
 use Rattle.cbm_text.specs.declared.fault.ListFault.{ListFault}
@@ -19,9 +19,9 @@ use Rattle.cmd_basic.specs.declared.tools.ToolFault.{ToolFault}
 use Rattle.cmd_basic.specs.declared.tools.ToolFault.TheVariants.{Read, Write, Memory, Text, NotBasic}
 
 -- what the tool makes of an input
-abbrev pub Makes : Tool → List ℕ → List ℕ → Type 0
-Makes Petcat input output = Lists input output
-Makes (Crunch start) input output = IsFileOf start input output
+abbrev pub ToolMakes : Tool → List ℕ → List ℕ → Type 0
+ToolMakes Petcat input output = Lists input output
+ToolMakes (Crunch start) input output = IsFileOf start input output
 
 -- the address at which the tool's program is loaded; petcat makes none
 abbrev pub start_of : Tool → ℕ
@@ -43,7 +43,7 @@ Refuses Petcat input (Memory error) = ⊤
 Refuses Petcat input Read = ⊥
 Refuses Petcat input Write = ⊥
 Refuses (Crunch start) input (NotBasic fault) = ⊥
-Refuses (Crunch start) input (Text fault) = IsFirstFault start input fault × TellsLine input fault
+Refuses (Crunch start) input (Text fault) = IsFirstBasicFault start input fault × TellsLine input fault
 Refuses (Crunch start) input (Memory error) = ⊤
 Refuses (Crunch start) input Read = ⊥
 Refuses (Crunch start) input Write = ⊥
@@ -51,9 +51,9 @@ Refuses (Crunch start) input Write = ⊥
 -- what the tool writes of an input: all that it makes of it, a first part if a write fails, and
 -- nothing after another fault
 abbrev pub HasWritten : {A : Type 0} → Tool → List ℕ → Option (List ℕ) → Option (List ℕ) → Result A ToolFault → Type 0
-HasWritten tool input old new (Ok done) = (output : List ℕ) × Makes tool input output × Appends old new output
+HasWritten tool input old new (Ok done) = (output : List ℕ) × ToolMakes tool input output × Appends old new output
 HasWritten tool input old new (Err Read) = ⊥
-HasWritten tool input old new (Err Write) = (output : List ℕ) × Makes tool input output × AppendsPart old new output
+HasWritten tool input old new (Err Write) = (output : List ℕ) × ToolMakes tool input output × AppendsPart old new output
 HasWritten tool input old new (Err (Memory error)) = Keeps old new
 HasWritten tool input old new (Err (Text fault)) = Refuses tool input (Text fault) × Keeps old new
 HasWritten tool input old new (Err (NotBasic fault)) = Refuses tool input (NotBasic fault) × Keeps old new
@@ -72,7 +72,7 @@ answer_of_store (Err fault) = Err (fault_of_store fault)
 -- or nothing, if it refuses the input
 abbrev pub HasStored : Tool → List ℕ → List ℕ → HostState → HostState → Result (Unit {0}) ToolFault → Type 0
 HasStored tool input name old new answer =
-    ((output : List ℕ) × Makes tool input output × (stored : Result (Unit {0}) HostFault) × StoresFile old name output stored new × (answer ≡ answer_of_store stored))
+    ((output : List ℕ) × ToolMakes tool input output × (stored : Result (Unit {0}) HostFault) × StoresFile old name output stored new × (answer ≡ answer_of_store stored))
     ⊎ ((fault : ToolFault) × Refuses tool input fault × (answer ≡ Err fault) × (new ≡ old))
 
 -- the input is all that the reader had, and no longer than a script may be
@@ -105,7 +105,7 @@ RanTool {A} tool reader left old new (Err (NotBasic fault)) = RanWholly {A = A} 
 
 -- the line number in a fault of a text has 32 bits
 abbrev pub HasSmallLine : ToolFault → Type 0
-HasSmallLine (Text fault) = IfSome (fault_line fault) (λ line. line < 2 ^ 32)
+HasSmallLine (Text fault) = IfSome (basic_fault_line fault) (λ line. line < 2 ^ 32)
 HasSmallLine (NotBasic fault) = ⊤
 HasSmallLine (Memory error) = ⊤
 HasSmallLine Read = ⊤

@@ -1,7 +1,7 @@
 //! The line of a refused input, in the form of compilers.
 ghost use Rattle.std.specs.Prelude.{◌≡◌, ◌-◌, ◌++◌, OnOk, [], codes, decimal, length, option_copied, take};
 ghost use Rattle.std.specs.Option.{option_map_or};
-ghost use Rattle.cmd_basic.specs.RefusalLine.{place_of, refusal_line, status_text};
+ghost use Rattle.cmd_basic.specs.RefusalLine.{refusal_place, refusal_line, status_text};
 
 use host_names::push_shown;
 use out_messages::push_number;
@@ -28,7 +28,7 @@ pub(crate) fn push_refusal_line(
 
 /// Appends the name of an input, and the number of a line of it, if there is one.
 fn push_place(out: &mut Vec<u8>, name: Option<&str>, line: Option<usize>) -> Result<(), AllocError>
-    ensures { OnOk result (out.new.items ≡ out.old.items ++ place_of (option_copied name.entry) line) }
+    ensures { OnOk result (out.new.items ≡ out.old.items ++ refusal_place (option_copied name.entry) line) }
 {
     push_shown(out, name.unwrap_or("-").as_bytes())?;
     match line {

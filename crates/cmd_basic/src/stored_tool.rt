@@ -8,7 +8,7 @@ ghost use Rattle.program_console.specs.Console.{IsFresh, SameStreams};
 ghost use Rattle.program_console.specs.Outside.{account_at, outside_at};
 ghost use Rattle.program_batch.specs.declared.reason.Reason.{Reason};
 ghost use Rattle.out_messages.specs.FaultLines.{unwritten_line};
-ghost use Rattle.cmd_basic.specs.ToolRuns.{EndedToolTo, ReportsProgram, ReportsText, ReportsStored, ReportsUnwritten, TakesInput};
+ghost use Rattle.cmd_basic.specs.ToolRuns.{EndedToolTo, ReportsProgram, ReportsFaultyLines, ReportsStored, ReportsUnwritten, TakesInput};
 ghost use Rattle.cmd_basic.specs.Tools.{HasStored, fault_of_store, start_of};
 
 use crate::refusal_line::push_refusal_line;
@@ -146,7 +146,7 @@ impl<'n> StoredTool<'n> {
         requires { length text.now ≤ script_limit }
         ensures faults { faults.new.writer.ghost_name ≡ faults.old.writer.ghost_name }
         ensures status { (result ≡ 1) ⊎ (result ≡ 2) }
-        ensures reported { ReportsText (option_copied self.entry.file) (start_of self.entry.tool) text.now (account_at F.contents faults.old) (account_at F.contents faults.new) result }
+        ensures reported { ReportsFaultyLines (option_copied self.entry.file) (start_of self.entry.tool) text.now (account_at F.contents faults.old) (account_at F.contents faults.new) result }
     {
         match refused_text(alloc, self.file, self.tool.start(), text) {
             Ok(lines) => {

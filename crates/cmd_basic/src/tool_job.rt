@@ -5,7 +5,7 @@ ghost use Rattle.script_text.specs.Output.{Writes};
 ghost use Rattle.program_console.specs.Console.{IsDelivered, IsFresh, SameStreams};
 ghost use Rattle.program_console.specs.Outside.{account_at, outside_at};
 ghost use Rattle.script_text.specs.Status.{status_line};
-ghost use Rattle.cmd_basic.specs.ToolRuns.{EndedConversion, RanToolOn, ReportsResult};
+ghost use Rattle.cmd_basic.specs.ToolRuns.{EndedConversion, RanToolOn, ReportsToolResult};
 ghost use Rattle.cmd_basic.specs.Tools.{ReadsWith, HasSmallLine, WritesWith};
 
 use crate::stored_tool::StoredTool;
@@ -119,7 +119,7 @@ fn report_result<F: Write>(answer: Result<(), ToolFault>, faults: &mut OutputStr
     requires { IfErr answer HasSmallLine }
     ensures faults { faults.new.writer.ghost_name ≡ faults.old.writer.ghost_name }
     ensures wrote { result ≡ 0 → IsOk answer }
-    ensures reported { ReportsResult answer (account_at F.contents faults.old) (account_at F.contents faults.new) result }
+    ensures reported { ReportsToolResult answer (account_at F.contents faults.old) (account_at F.contents faults.new) result }
     ensures silent { result ≡ 0 → faults.new ≡ faults.old }
 {
     match answer {

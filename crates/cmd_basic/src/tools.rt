@@ -5,7 +5,7 @@ ghost use Rattle.std.specs.Prelude.{◌≡◌, ◌≤◌, false, length, IfOk, I
 ghost use Rattle.script_text.specs.Input.{IsUnread, IsUnreadable, reading_of};
 ghost use Rattle.script_text.specs.Script.{script_limit};
 ghost use Rattle.cmd_basic.specs.declared.tools.ToolFault.TheVariants.{Read};
-ghost use Rattle.cmd_basic.specs.Tools.{Makes, Refuses, HasRead, ReadsNot, HasWritten, ReadsWith, RanTool, HasSmallLine, WritesWith, start_of};
+ghost use Rattle.cmd_basic.specs.Tools.{ToolMakes, Refuses, HasRead, ReadsNot, HasWritten, ReadsWith, RanTool, HasSmallLine, WritesWith, start_of};
 
 use cbm_text::{BasicFault, ListFault, crunch, list};
 use script_text::input::InputStream;
@@ -124,7 +124,7 @@ impl Tool {
 
     /// Returns what the tool makes of an input; never `Read` or `Write`.
     pub(crate) fn output(self, alloc: Global, input: &[u8]) -> Result<Vec<u8>, ToolFault>
-        ensures made { IfOk result (λ output. Makes self input.now output.items) }
+        ensures made { IfOk result (λ output. ToolMakes self input.now output.items) }
         ensures refused { IfErr result (Refuses self input.now) }
     {
         match self {

@@ -16,26 +16,26 @@ use Rattle.cmd_catalogue.specs.Elements.{linked_text_in, text_in}
 use Rattle.cmd_catalogue.specs.Links.{Naming, file_url, first_naming, naming_after}
 
 -- why the file of a slot is not whole, or why that is not known
-unfoldable pub reasons : Disk → Bytes → List Flaw → List ℕ
-reasons image cell flaws = flaws_text (size_of cell) (length (slot_blocks image cell)) flaws
+unfoldable pub slot_reasons : Disk → Bytes → List Flaw → List ℕ
+slot_reasons image cell flaws = flaws_text (size_of cell) (length (slot_blocks image cell)) flaws
 
 -- that it is not known whether the file is whole, and why, if there is more to say
-unfoldable pub unknown_text : Disk → Bytes → List Flaw → List ℕ
-unknown_text image cell flaws = codes "not known" ++ (if length flaws == 0 then [] else codes ": " ++ reasons image cell flaws)
+unfoldable pub slot_unknown_text : Disk → Bytes → List Flaw → List ℕ
+slot_unknown_text image cell flaws = codes "not known" ++ (if length flaws == 0 then [] else codes ": " ++ slot_reasons image cell flaws)
 
 -- whether the file is whole, or what is wrong with it; None means that it is not known
 abbrev pub wholeness_text : Option Bool → Disk → Bytes → List Flaw → List ℕ
-wholeness_text None image cell flaws = unknown_text image cell flaws
+wholeness_text None image cell flaws = slot_unknown_text image cell flaws
 wholeness_text (Some true) image cell flaws = codes "whole"
-wholeness_text (Some false) image cell flaws = reasons image cell flaws
+wholeness_text (Some false) image cell flaws = slot_reasons image cell flaws
 
 -- that a file is locked
 abbrev pub locked_text : Bool → List ℕ
 locked_text locked = if locked then codes ", locked" else []
 
 -- the state of the file of a slot with these flaws
-unfoldable pub state_words : Disk → Bytes → List Flaw → List ℕ
-state_words image cell flaws = wholeness_text (wholeness_by cell flaws) image cell flaws ++ locked_text (is_locked cell)
+unfoldable pub slot_state_words : Disk → Bytes → List Flaw → List ℕ
+slot_state_words image cell flaws = wholeness_text (wholeness_by cell flaws) image cell flaws ++ locked_text (is_locked cell)
 
 -- the attribute that gives a state its look
 abbrev pub state_class : Option Bool → List ℕ
@@ -45,7 +45,7 @@ state_class (Some false) = codes " class=\"broken\""
 
 -- the cell of the state
 unfoldable pub state_cell : Disk → Bytes → List Flaw → List ℕ
-state_cell image cell flaws = text_in (codes "td") (state_class (wholeness_by cell flaws)) (state_words image cell flaws)
+state_cell image cell flaws = text_in (codes "td") (state_class (wholeness_by cell flaws)) (slot_state_words image cell flaws)
 
 -- the size that the directory gives
 unfoldable pub size_cell : Bytes → List ℕ

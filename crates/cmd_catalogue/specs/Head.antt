@@ -1,13 +1,13 @@
 -- What is printed before the sections.
 use Rattle.std.specs.Prelude.{ℕ, List, [], ◌++◌, codes}
 use Rattle.cmd_catalogue.specs.Elements.{text_line}
-use Rattle.cmd_catalogue.specs.Style.{style}
+use Rattle.cmd_catalogue.specs.Style.{page_style}
 use Rattle.cmd_catalogue.specs.Script.{script}
 
 -- the beginning of the page: its language, and what it may load; of scripts only its own (by its
 -- digest)
-unfoldable pub opening : List ℕ
-opening = codes "<!DOCTYPE html>\n<html lang=\"en\">\n<head>\n<meta charset=\"utf-8\">\n<meta name=\"viewport\" content=\"width=device-width, initial-scale=1\">\n<meta http-equiv=\"Content-Security-Policy\" content=\"default-src 'none'; style-src 'unsafe-inline'; script-src 'sha256-t0GAwf4aeND4mvEu34xdsTTTSa89vA+KvxshQNC3Rb8='; base-uri 'none'; form-action 'none'\">\n"
+unfoldable pub page_opening : List ℕ
+page_opening = codes "<!DOCTYPE html>\n<html lang=\"en\">\n<head>\n<meta charset=\"utf-8\">\n<meta name=\"viewport\" content=\"width=device-width, initial-scale=1\">\n<meta http-equiv=\"Content-Security-Policy\" content=\"default-src 'none'; style-src 'unsafe-inline'; script-src 'sha256-t0GAwf4aeND4mvEu34xdsTTTSa89vA+KvxshQNC3Rb8='; base-uri 'none'; form-action 'none'\">\n"
 
 -- the end of its head
 unfoldable pub head_end : List ℕ
@@ -19,9 +19,9 @@ unfoldable pub search_head : List ℕ
 search_head = codes "<div class=\"tools\" role=\"search\" hidden>\n<input type=\"search\" aria-label=\"Search disks and files\" placeholder=\"Search disks and files\" autocomplete=\"off\" autocapitalize=\"none\" spellcheck=\"false\">\n<div role=\"group\" aria-label=\"State\">\n<button type=\"button\" value=\"\" aria-pressed=\"true\">All</button>\n<button type=\"button\" value=\"sound\" aria-pressed=\"false\">Sound</button>\n<button type=\"button\" value=\"amiss\" aria-pressed=\"false\">Problems</button>\n</div>\n<output></output>\n</div>\n</header>\n"
 
 -- the end of the head, and all that is above the sections, with this heading
-unfoldable pub header : List ℕ → List ℕ
-header title = head_end ++ (text_line (codes "h1") [] title ++ search_head)
+unfoldable pub page_header : List ℕ → List ℕ
+page_header title = head_end ++ (text_line (codes "h1") [] title ++ search_head)
 
 -- the head of the page, with this title: `body` and `html` stay open until the page ends
 unfoldable pub page_head : List ℕ → List ℕ
-page_head title = opening ++ (text_line (codes "title") [] title ++ (style ++ (script ++ header title)))
+page_head title = page_opening ++ (text_line (codes "title") [] title ++ (page_style ++ (script ++ page_header title)))

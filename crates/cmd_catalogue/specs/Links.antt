@@ -5,12 +5,12 @@ use Rattle.std.specs.Option.{option_map_or}
 use Rattle.std.specs.Str.{is_utf8}
 use Rattle.d64_files.specs.Slot.{EntryView, is_used}
 use Rattle.d64_survey.specs.Dump.{DumpView}
-use Rattle.d64_inventory.specs.Rows.{row_of}
+use Rattle.d64_inventory.specs.Rows.{file_row_of}
 use Rattle.cmd_extract_contents.specs.Portions.{Portion, portion_at}
 use Rattle.cmd_extract_contents.specs.Limits.{limit, left_after, portion_within}
 use Rattle.cmd_extract_contents.specs.declared.extent.Extent.TheVariants.{Content}
 use Rattle.cmd_extract.specs.Paths.{done_path, path_in}
-use Rattle.cmd_extract.specs.Progress.{host_name}
+use Rattle.cmd_extract.specs.Progress.{host_name_of_row}
 use Rattle.cmd_catalogue.specs.Urls.{url_of}
 
 -- the folder of the image with this name, below the links' folder; None if there is no such folder,
@@ -30,13 +30,13 @@ abbrev pub first_naming : Naming
 first_naming = record { left = Some limit; taken = [] }
 
 -- the content of the file of an entry, if there is one
-abbrev pub content_at : DumpView → EntryView → Option Portion
-content_at dump entry = portion_at false dump.image entry.slot
+abbrev pub portion_of_entry : DumpView → EntryView → Option Portion
+portion_of_entry dump entry = portion_at false dump.image entry.slot
 
 -- the name of its host file, if it is written
 unfoldable pub file_name : DumpView → Naming → EntryView → Option (List ℕ)
 file_name dump naming entry =
-    option_map (λ (content : Portion). host_name naming.taken (row_of dump (entry.slot, entry.bytes)) Content) (portion_within naming.left (content_at dump entry))
+    option_map (λ (content : Portion). host_name_of_row naming.taken (file_row_of dump (entry.slot, entry.bytes)) Content) (portion_within naming.left (portion_of_entry dump entry))
 
 -- the URL of its host file in a folder, if it is written
 abbrev pub file_url : List ℕ → DumpView → Naming → EntryView → Option (List ℕ)
@@ -45,6 +45,6 @@ file_url folder dump naming entry = option_map (λ name. url_of (path_in folder 
 -- how far they are named after the file of an entry
 unfoldable pub naming_after : DumpView → Naming → EntryView → Naming
 naming_after dump naming entry = record {
-  left = left_after naming.left (content_at dump entry);
+  left = left_after naming.left (portion_of_entry dump entry);
   taken = naming.taken ++ option_map_or (λ name. name ∷ []) (file_name dump naming entry) [];
 }

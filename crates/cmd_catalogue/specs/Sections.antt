@@ -19,8 +19,8 @@ use Rattle.cmd_catalogue.specs.Elements.{text_line}
 use Rattle.cmd_catalogue.specs.Files.{table}
 
 -- the disk's name in text form
-unfoldable pub disk_line : Disk → List ℕ
-disk_line image = text_line (codes "h2") (codes " class=\"name\"") (spelling (disk_name image))
+unfoldable pub disk_name_line : Disk → List ℕ
+disk_name_line image = text_line (codes "h2") (codes " class=\"name\"") (spelling (disk_name image))
 
 -- the disk's id
 unfoldable pub id_line : Disk → List ℕ
@@ -40,7 +40,7 @@ state_line dump = text_line (codes "span") (codes " class=\"state\"") (state_tex
 
 -- the lines by which the disk is known
 unfoldable pub label_lines : Bytes → Disk → List ℕ
-label_lines name image = disk_line image ++ (id_line image ++ host_line (codes "span") name)
+label_lines name image = disk_name_line image ++ (id_line image ++ host_line (codes "span") name)
 
 -- what is seen of a closed section
 unfoldable pub summary : Bytes → DumpView → List ℕ
@@ -71,8 +71,8 @@ abbrev pub picture_where : Bool → Bytes → DumpView → List ℕ
 picture_where maps name dump = if maps then page_svg_of name dump else []
 
 -- the whole content of the section, with links to host files in this folder, if there is one
-unfoldable pub content : Bool → Option (List ℕ) → Bytes → DumpView → List ℕ
-content maps folder name dump = codes "\n" ++ (summary name dump ++ (wrongs dump ++ (table folder dump ++ picture_where maps name dump)))
+unfoldable pub section_content : Bool → Option (List ℕ) → Bytes → DumpView → List ℕ
+section_content maps folder name dump = codes "\n" ++ (summary name dump ++ (wrongs dump ++ (table folder dump ++ picture_where maps name dump)))
 
 -- the attributes that say whether anything is wrong, and how its sign looks: a warning if the disk
 -- is otherwise sound
@@ -84,7 +84,7 @@ amiss_class sound amiss =
 -- the section of an image
 unfoldable pub section : Bool → Option (List ℕ) → Bytes → DumpView → List ℕ
 section maps folder name dump =
-    element (codes "details") (amiss_class (is_sound dump.image) (is_amiss dump)) (content maps folder name dump) ++ codes "\n"
+    element (codes "details") (amiss_class (is_sound dump.image) (is_amiss dump)) (section_content maps folder name dump) ++ codes "\n"
 
 -- the section of a file that is not a dump, with what is wrong with it
 unfoldable pub unanswered_section : Bytes → List ℕ → List ℕ

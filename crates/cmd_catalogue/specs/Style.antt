@@ -32,5 +32,5 @@ unfoldable pub rules : List ℕ
 rules = page_rules ++ (search_rules ++ (section_rules ++ (label_rules ++ (table_rules ++ medium_rules))))
 
 -- the style, with that of the pictures
-unfoldable pub style : List ℕ
-style = element (codes "style") [] (codes "\n" ++ (rules ++ picture_rules)) ++ codes "\n"
+unfoldable pub page_style : List ℕ
+page_style = element (codes "style") [] (codes "\n" ++ (rules ++ picture_rules)) ++ codes "\n"

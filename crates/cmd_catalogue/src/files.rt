@@ -3,7 +3,7 @@ ghost use Rattle.std.specs.Prelude.{◌≡◌, ◌≤◌, [], ◌++◌, length, 
 ghost use Rattle.d64_survey.specs.Flaws.{wholeness_by};
 ghost use Rattle.d64_survey.specs.Owners.{way_slots};
 ghost use Rattle.out_messages.specs.FileText.{letters_of};
-ghost use Rattle.cmd_catalogue.specs.Files.{reasons, unknown_text, wholeness_text, locked_text, state_words, state_class, state_cell, size_cell, name_cell, kind_cell, file_cells, flawed_row, used_row, file_row, file_rows, linked_rows, dump_rows, table_head, table};
+ghost use Rattle.cmd_catalogue.specs.Files.{slot_reasons, slot_unknown_text, wholeness_text, locked_text, slot_state_words, state_class, state_cell, size_cell, name_cell, kind_cell, file_cells, flawed_row, used_row, file_row, file_rows, linked_rows, dump_rows, table_head, table};
 ghost use Rattle.d64_files.specs.Directory.{entries};
 ghost use Rattle.out_markup.specs.Markup.{element};
 ghost use Rattle.cmd_catalogue.specs.Links.{file_url, first_naming, naming_after};
@@ -23,7 +23,7 @@ const TABLE_HEAD: &[u8] =
     b"<thead><tr><th scope=\"col\">Blocks</th><th scope=\"col\">Name</th><th scope=\"col\">Kind</th><th scope=\"col\">State</th></tr></thead>\n";
 
 /// Appends why the file of a slot is not whole, or why that is not known.
-#[tactic(auto, unfolding(crate::specs::Files::reasons))]
+#[tactic(auto, unfolding(crate::specs::Files::slot_reasons))]
 fn push_reasons(
     out: &mut Vec<u8>,
     image: &Image,
@@ -31,7 +31,7 @@ fn push_reasons(
     flaws: &[Flaw],
 ) -> Result<(), AllocError>
     requires { length flaws.now ≤ 7 }
-    ensures { OnOk result (out.new.items ≡ out.old.items ++ reasons image.now entry.now.bytes flaws.now) }
+    ensures { OnOk result (out.new.items ≡ out.old.items ++ slot_reasons image.now entry.now.bytes flaws.now) }
 {
     push_flaws(
         out,
@@ -42,7 +42,7 @@ fn push_reasons(
 }
 
 /// Appends that it is not known whether the file is whole, and why, if there is more to say.
-#[tactic(auto, unfolding(crate::specs::Files::unknown_text))]
+#[tactic(auto, unfolding(crate::specs::Files::slot_unknown_text))]
 fn push_unknown(
     out: &mut Vec<u8>,
     image: &Image,
@@ -50,7 +50,7 @@ fn push_unknown(
     flaws: &[Flaw],
 ) -> Result<(), AllocError>
     requires { length flaws.now ≤ 7 }
-    ensures { OnOk result (out.new.items ≡ out.old.items ++ unknown_text image.now entry.now.bytes flaws.now) }
+    ensures { OnOk result (out.new.items ≡ out.old.items ++ slot_unknown_text image.now entry.now.bytes flaws.now) }
 {
     out.extend_from_slice(b"not known")?;
     if flaws.is_empty() {
@@ -85,7 +85,7 @@ fn locked_text(locked: bool) -> &'static [u8]
 }
 
 /// Appends the state of the file of a slot with these flaws.
-#[tactic(auto, unfolding(crate::specs::Files::state_words))]
+#[tactic(auto, unfolding(crate::specs::Files::slot_state_words))]
 fn push_state_words(
     out: &mut Vec<u8>,
     image: &Image,
@@ -93,7 +93,7 @@ fn push_state_words(
     flaws: &[Flaw],
 ) -> Result<(), AllocError>
     requires { length flaws.now ≤ 7 }
-    ensures { OnOk result (out.new.items ≡ out.old.items ++ state_words image.now entry.now.bytes flaws.now) }
+    ensures { OnOk result (out.new.items ≡ out.old.items ++ slot_state_words image.now entry.now.bytes flaws.now) }
 {
     push_wholeness(out, image, entry, flaws)?;
     out.extend_from_slice(locked_text(entry.locked()))

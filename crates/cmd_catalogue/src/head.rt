@@ -1,7 +1,7 @@
 //! The page up to its first section: the policy, the title, the style, the script and the search.
 //! `body` and `html` stay open: HTML lets their end tags be left out.
 ghost use Rattle.std.specs.Prelude.{◌≡◌, ◌++◌, option_map, OnOk};
-ghost use Rattle.cmd_catalogue.specs.Head.{opening, head_end, search_head, header, page_head};
+ghost use Rattle.cmd_catalogue.specs.Head.{page_opening, head_end, search_head, page_header, page_head};
 ghost use Rattle.cmd_catalogue.specs.Title.{page_title};
 
 use crate::element::push_text_line;
@@ -38,9 +38,9 @@ const SEARCH_HEAD: &[u8] = b"<div class=\"tools\" role=\"search\" hidden>\n\
 </header>\n";
 
 /// Appends the beginning of the page.
-#[tactic(auto, unfolding(crate::specs::Head::opening))]
+#[tactic(auto, unfolding(crate::specs::Head::page_opening))]
 fn push_opening(out: &mut Vec<u8>) -> Result<(), AllocError>
-    ensures { OnOk result (out.new.items ≡ out.old.items ++ opening) }
+    ensures { OnOk result (out.new.items ≡ out.old.items ++ page_opening) }
 {
     out.extend_from_slice(OPENING)
 }
@@ -62,9 +62,9 @@ fn push_search_head(out: &mut Vec<u8>) -> Result<(), AllocError>
 }
 
 /// Appends the end of the head, and all that is above the sections, with this heading.
-#[tactic(auto, unfolding(crate::specs::Head::header))]
+#[tactic(auto, unfolding(crate::specs::Head::page_header))]
 fn push_header(out: &mut Vec<u8>, title: &[u8]) -> Result<(), AllocError>
-    ensures { OnOk result (out.new.items ≡ out.old.items ++ header title.now) }
+    ensures { OnOk result (out.new.items ≡ out.old.items ++ page_header title.now) }
 {
     push_head_end(out)?;
     push_text_line(out, b"h1", b"", title)?;

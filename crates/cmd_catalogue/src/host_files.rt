@@ -86,7 +86,7 @@ impl HostFiles {
 
     /// Names the host file of the next entry's file, and returns whether there is one: it needs a
     /// content that fits after the files before. The name is taken from then on.
-    #[tactic(auto, unfolding(crate::specs::Links::file_name, crate::specs::Links::naming_after, cmd_extract::specs::Progress::host_name, d64_inventory::specs::Rows::row_of))]
+    #[tactic(auto, unfolding(crate::specs::Links::file_name, crate::specs::Links::naming_after, cmd_extract::specs::Progress::host_name_of_row, d64_inventory::specs::Rows::file_row_of))]
     fn name_next(&mut self, all: &Inspection, entry: &Entry) -> Result<bool, AllocError>
         ensures name { IfOk result (λ is_written. (if is_written then Some self.new.name.items else None) ≡ file_name all.now (naming_of self.old) entry.now) }
         ensures naming { OnOk result (naming_of self.new ≡ naming_after all.now (naming_of self.old) entry.now) }

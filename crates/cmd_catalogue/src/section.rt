@@ -2,7 +2,7 @@
 ghost use Rattle.std.specs.Prelude.{◌≡◌, [], ◌++◌, codes, option_map, OnOk};
 ghost use Rattle.std.specs.List.{flat_map};
 ghost use Rattle.cmd_catalogue.specs.Elements.{text_line};
-ghost use Rattle.cmd_catalogue.specs.Sections.{disk_line, id_line, host_line, contents_line, state_line, label_lines, summary, fault_item, error_item, fault_items, error_items, wrongs, picture_where, content, amiss_class, section, unanswered_section};
+ghost use Rattle.cmd_catalogue.specs.Sections.{disk_name_line, id_line, host_line, contents_line, state_line, label_lines, summary, fault_item, error_item, fault_items, error_items, wrongs, picture_where, section_content, amiss_class, section, unanswered_section};
 
 use crate::element::push_text_line;
 use crate::files::push_table;
@@ -18,9 +18,9 @@ use petscii::push_spelling;
 use std::alloc::AllocError;
 
 /// Appends the disk's name.
-#[tactic(auto, unfolding(crate::specs::Sections::disk_line))]
+#[tactic(auto, unfolding(crate::specs::Sections::disk_name_line))]
 fn push_disk_line(out: &mut Vec<u8>, image: &Image, text: &mut Vec<u8>) -> Result<(), AllocError>
-    ensures { OnOk result (out.new.items ≡ out.old.items ++ disk_line image.now) }
+    ensures { OnOk result (out.new.items ≡ out.old.items ++ disk_name_line image.now) }
 {
     text.clear();
     push_spelling(text, disk_name(image))?;
@@ -213,7 +213,7 @@ fn push_picture_where(
 }
 
 /// Appends the whole content of the section.
-#[tactic(auto, unfolding(crate::specs::Sections::content))]
+#[tactic(auto, unfolding(crate::specs::Sections::section_content))]
 fn push_content(
     out: &mut Vec<u8>,
     maps: bool,
@@ -223,7 +223,7 @@ fn push_content(
     files: &mut HostFiles,
     text: &mut Vec<u8>,
 ) -> Result<(), AllocError>
-    ensures { OnOk result (out.new.items ≡ out.old.items ++ content maps (option_map (λ folder. folder.now) folder.entry) name.now all.now) }
+    ensures { OnOk result (out.new.items ≡ out.old.items ++ section_content maps (option_map (λ folder. folder.now) folder.entry) name.now all.now) }
 {
     out.extend_from_slice(b"\n")?;
     push_summary(out, name, all, text)?;

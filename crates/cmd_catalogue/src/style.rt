@@ -1,6 +1,6 @@
 //! The style of the page.
 ghost use Rattle.std.specs.Prelude.{◌≡◌, ◌++◌, OnOk};
-ghost use Rattle.cmd_catalogue.specs.Style.{page_rules, search_rules, section_rules, label_rules, table_rules, medium_rules, rules, style};
+ghost use Rattle.cmd_catalogue.specs.Style.{page_rules, search_rules, section_rules, label_rules, table_rules, medium_rules, rules, page_style};
 ghost use Rattle.cmd_map.specs.Style.{picture_rules};
 
 use cmd_map::push_picture_rules;
@@ -155,9 +155,9 @@ fn push_rules_with_pictures(out: &mut Vec<u8>) -> Result<(), AllocError>
 }
 
 /// Appends the style.
-#[tactic(auto, unfolding(crate::specs::Style::style, out_markup::specs::Markup::element, out_markup::specs::Markup::tag))]
+#[tactic(auto, unfolding(crate::specs::Style::page_style, out_markup::specs::Markup::element, out_markup::specs::Markup::tag))]
 pub(crate) fn push_style(out: &mut Vec<u8>) -> Result<(), AllocError>
-    ensures { OnOk result (out.new.items ≡ out.old.items ++ style) }
+    ensures { OnOk result (out.new.items ≡ out.old.items ++ page_style) }
 {
     out.extend_from_slice(b"<style>\n")?;
     push_rules_with_pictures(out)?;

@@ -19,22 +19,22 @@ abbrev pub digest_of : Bool → Bytes → Option Bytes
 digest_of asked bytes = if asked then Some (sha256 bytes) else None
 
 -- what is printed of a dump
-abbrev pub printed_of : Format → List ℕ → DumpView → Option Bytes → List ℕ
-printed_of Text name dump digest = check_text name dump
-printed_of Json name dump digest = line_of (check_object dump name digest)
-printed_of Csv name dump digest = check_row dump name digest
+abbrev pub check_printed_of : Format → List ℕ → DumpView → Option Bytes → List ℕ
+check_printed_of Text name dump digest = check_text name dump
+check_printed_of Json name dump digest = line_of (check_object dump name digest)
+check_printed_of Csv name dump digest = check_row dump name digest
 
 -- what is printed of a file that cannot be read
-abbrev pub printed_unread : Format → Bool → List ℕ → List ℕ
-printed_unread Text digest name = []
-printed_unread Json digest name = line_of (unread_object name)
-printed_unread Csv digest name = unanswered_row name digest (codes "cannot be read")
+abbrev pub check_printed_unread : Format → Bool → List ℕ → List ℕ
+check_printed_unread Text digest name = []
+check_printed_unread Json digest name = line_of (unread_object name)
+check_printed_unread Csv digest name = unanswered_row name digest (codes "cannot be read")
 
 -- what is printed of bytes that are not a dump
-abbrev pub printed_no_dump : Format → Bool → List ℕ → Bytes → List ℕ
-printed_no_dump Text digest name bytes = []
-printed_no_dump Json digest name bytes = line_of (no_dump_object name bytes)
-printed_no_dump Csv digest name bytes = unanswered_row name digest (no_dump_error bytes)
+abbrev pub check_printed_no_dump : Format → Bool → List ℕ → Bytes → List ℕ
+check_printed_no_dump Text digest name bytes = []
+check_printed_no_dump Json digest name bytes = line_of (no_dump_object name bytes)
+check_printed_no_dump Csv digest name bytes = unanswered_row name digest (no_dump_error bytes)
 
 -- what is printed before the first result: the header row of CSV
 abbrev pub heading_of : Format → Bool → List ℕ
@@ -46,9 +46,9 @@ heading_of Csv digest = header_row digest
 abbrev pub check_printing : Format → Bool → Printing
 check_printing form digest = record {
   heading = heading_of form digest;
-  of_dump = λ name bytes dump. printed_of form name dump (digest_of digest bytes);
-  of_unread = printed_unread form digest;
-  of_no_dump = printed_no_dump form digest;
+  of_dump = λ name bytes dump. check_printed_of form name dump (digest_of digest bytes);
+  of_unread = check_printed_unread form digest;
+  of_no_dump = check_printed_no_dump form digest;
   is_amiss = is_amiss;
 }
 

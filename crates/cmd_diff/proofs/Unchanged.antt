@@ -12,7 +12,7 @@ use Rattle.d64_survey.specs.Dump.{DumpView, IsDump, is_read_error}
 use Rattle.d64_survey.specs.ReadErrors.{code_of}
 use Rattle.d64_inventory.specs.Rows.{FileRowView, row_at}
 use Rattle.out_json_csv.specs.Values.{line_of}
-use Rattle.cmd_diff.specs.Changes.{DumpChange, DiskChanged, FileChanged, BlocksChanged, CodesChanged, are_alike, entry_object, disk_object, disk_change, slot_change, slot_changes, slot_count, changed_blocks, has_other_code, other_codes, changed_codes, where_any, changes}
+use Rattle.cmd_diff.specs.Changes.{DumpChange, DiskChanged, FileChanged, BlocksChanged, CodesChanged, are_alike, entry_object, disk_object, disk_change, slot_change, slot_changes, slot_count, differing_blocks, has_other_code, other_codes, changed_codes, where_any, changes}
 
 -- bytes are themselves
 pub same_bytes : (bytes : List ℕ) → pointwise nat_eq bytes bytes ≡ true
@@ -49,7 +49,7 @@ either_way : (b : Bool) (xs : List ℕ) → xs ≡ [] → (if b then xs else xs)
 either_way true xs none = none
 either_way false xs none = none
 
-no_changed_blocks : (image : List (List ℕ)) → changed_blocks image image ≡ []
+no_changed_blocks : (image : List (List ℕ)) → differing_blocks image image ≡ []
 no_changed_blocks image = either_way (nat_lt (length image) (length image)) (differences image image) (no_differences image)
 
 -- no code is another one than itself
@@ -74,7 +74,7 @@ pub no_changes : (dump : DumpView) → changes dump dump ≡ []
 unfolding changes
 no_changes dump =
     let disk : disk_change dump dump ≡ [] = ap (λ (same : Bool). if same then [] else DiskChanged dump dump ∷ []) (alike_itself (disk_object dump)) in
-    let blocks : where_any BlocksChanged (changed_blocks dump.image dump.image) ≡ [] = ap (where_any BlocksChanged) (no_changed_blocks dump.image) in
+    let blocks : where_any BlocksChanged (differing_blocks dump.image dump.image) ≡ [] = ap (where_any BlocksChanged) (no_changed_blocks dump.image) in
     let read : where_any CodesChanged (changed_codes dump dump) ≡ [] = ap (where_any CodesChanged) (no_changed_codes dump) in
     ap₂ (λ (a b : List DumpChange). a ++ b) disk
     (ap₂ (λ (a b : List DumpChange). a ++ b) (no_slot_changes dump (slot_count dump dump)) (ap₂ (λ (a b : List DumpChange). a ++ b) blocks read))
@@ -93,12 +93,12 @@ no_blocks [] none = refl
 no_blocks (block ∷ blocks) none = absurd (cc)
 
 -- if no change is listed, no block is
-no_block_listed : (old new : DumpView) → changes old new ≡ [] → changed_blocks old.image new.image ≡ []
+no_block_listed : (old new : DumpView) → changes old new ≡ [] → differing_blocks old.image new.image ≡ []
 unfolding changes
 no_block_listed old new none =
     let rest = no_second (disk_change old new) _ none in
     let last = no_second (slot_changes old new (slot_count old new)) _ rest in
-    no_blocks (changed_blocks old.image new.image) (no_first (where_any BlocksChanged (changed_blocks old.image new.image)) _ last)
+    no_blocks (differing_blocks old.image new.image) (no_first (where_any BlocksChanged (differing_blocks old.image new.image)) _ last)
 
 -- there is no block after the last one
 past_end : (image : List (List ℕ)) → sector_at image (length image) ≡ []
@@ -121,7 +121,7 @@ abbrev by_counts : List (List ℕ) → List (List ℕ) → ℕ → ℕ → List 
 by_counts old new few many = if nat_lt few many then differences new old else differences old new
 
 -- images in which no block changed are equal, by their sizes
-by_sizes : (old new : List (List ℕ)) → IsSize (length old) → IsSize (length new) → All IsBlock old → All IsBlock new → changed_blocks old new ≡ [] → old ≡ new
+by_sizes : (old new : List (List ℕ)) → IsSize (length old) → IsSize (length new) → All IsBlock old → All IsBlock new → differing_blocks old new ≡ [] → old ≡ new
 by_sizes old new (inl a) (inl b) is_old is_new none = equal_images old new (a ∙ sym b) (sym (ap₂ (by_counts old new) a b) ∙ none)
 by_sizes old new (inr a) (inr b) is_old is_new none = equal_images old new (a ∙ sym b) (sym (ap₂ (by_counts old new) a b) ∙ none)
 by_sizes old new (inl a) (inr b) is_old is_new none =

@@ -5,7 +5,7 @@ use Rattle.json.specs.Json.{Json, string, null}
 use Rattle.d64_image.specs.Disk.{Blocks}
 use Rattle.d64_survey.specs.Dump.{DumpView}
 use Rattle.d64_inventory.specs.Rows.{FileRowView}
-use Rattle.out_json_csv.specs.Pairs.{block_text}
+use Rattle.out_json_csv.specs.Pairs.{block_field}
 use Rattle.out_json_csv.specs.Values.{Field, object_of, array_of, numeral}
 use Rattle.cmd_diff.specs.Changes.{DumpChange, DiskChanged, Added, Removed, FileChanged, BlocksChanged, CodesChanged, disk_object, entry_object}
 
@@ -18,16 +18,16 @@ abbrev pub entry_value : Option FileRowView → Json
 entry_value row = option_map_or entry_object row null
 
 -- the change of a slot
-abbrev pub slot_members : ℕ → List ℕ → List Field
-slot_members slot word = (codes "slot", numeral slot) ∷ change_member word ∷ []
+abbrev pub changed_slot_members : ℕ → List ℕ → List Field
+changed_slot_members slot word = (codes "slot", numeral slot) ∷ change_member word ∷ []
 
 -- the file before and after
-abbrev pub entry_members : Option FileRowView → Option FileRowView → List Field
-entry_members old new = (codes "old", entry_value old) ∷ (codes "new", entry_value new) ∷ []
+abbrev pub changed_entry_members : Option FileRowView → Option FileRowView → List Field
+changed_entry_members old new = (codes "old", entry_value old) ∷ (codes "new", entry_value new) ∷ []
 
 -- a change of a slot, with the file before and after, if there is one
 abbrev pub slot_object : ℕ → List ℕ → Option FileRowView → Option FileRowView → Json
-slot_object slot word old new = object_of (slot_members slot word ++ entry_members old new)
+slot_object slot word old new = object_of (changed_slot_members slot word ++ changed_entry_members old new)
 
 -- the disk before and after
 abbrev pub disk_members : DumpView → DumpView → List Field
@@ -35,7 +35,7 @@ disk_members old new = (codes "old", disk_object old) ∷ (codes "new", disk_obj
 
 -- the text of a block's track and sector
 abbrev pub block_value : ℕ → Json
-block_value block = string (block_text block)
+block_value block = string (block_field block)
 
 -- blocks
 abbrev pub blocks_member : Blocks → Field

@@ -11,13 +11,13 @@ use Rattle.d64_survey.specs.Dump.{DumpView}
 use Rattle.d64_files.specs.DiskHeader.{disk_dos}
 use Rattle.out_messages.specs.CheckText.{label_text}
 use Rattle.host_names.specs.Shown.{shown_name}
-use Rattle.out_messages.specs.Words.{count_of, block_text}
-use Rattle.cmd_files.specs.FileTable.{file_line}
+use Rattle.out_messages.specs.Words.{counted_text, block_text}
+use Rattle.cmd_files.specs.FileTable.{slot_line}
 use Rattle.cmd_diff.specs.Changes.{DumpChange, DiskChanged, Added, Removed, FileChanged, BlocksChanged, CodesChanged}
 
 -- whether there are read codes
-abbrev pub codes_text : Bool → List ℕ
-codes_text has_codes = if has_codes then codes ", with read codes\n" else codes "\n"
+abbrev pub read_codes_text : Bool → List ℕ
+read_codes_text has_codes = if has_codes then codes ", with read codes\n" else codes "\n"
 
 -- the DOS version
 unfoldable pub dos_text : Disk → List ℕ
@@ -29,15 +29,15 @@ tracks_text image = decimal (tracks_of (length image)) ++ codes " tracks, "
 
 -- how many blocks are free
 unfoldable pub free_text : Disk → List ℕ
-free_text image = count_of (blocks_free image) (codes "block") ++ codes " free"
+free_text image = counted_text (blocks_free image) (codes "block") ++ codes " free"
 
 -- what the disk's line says after its label
-unfoldable pub size_text : DumpView → List ℕ
-size_text dump = dos_text dump.image ++ (tracks_text dump.image ++ (free_text dump.image ++ codes_text (is_some dump.codes)))
+unfoldable pub disk_size_text : DumpView → List ℕ
+disk_size_text dump = dos_text dump.image ++ (tracks_text dump.image ++ (free_text dump.image ++ read_codes_text (is_some dump.codes)))
 
 -- the disk's line
 unfoldable pub disk_line : DumpView → List ℕ
-disk_line dump = codes "disk " ++ (label_text dump.image ++ size_text dump)
+disk_line dump = codes "disk " ++ (label_text dump.image ++ disk_size_text dump)
 
 -- a line of the old dump
 abbrev pub old_line : List ℕ → List ℕ
@@ -66,9 +66,9 @@ blocks_line word blocks = word ++ (flat_map listed_block blocks ++ codes "\n")
 -- what is printed of a change
 abbrev pub change_lines : DumpChange → List ℕ
 change_lines (DiskChanged old new) = old_line (disk_line old) ++ new_line (disk_line new)
-change_lines (Added new) = new_line (file_line new)
-change_lines (Removed old) = old_line (file_line old)
-change_lines (FileChanged old new) = both_lines (file_line old) (file_line new)
+change_lines (Added new) = new_line (slot_line new)
+change_lines (Removed old) = old_line (slot_line old)
+change_lines (FileChanged old new) = both_lines (slot_line old) (slot_line new)
 change_lines (BlocksChanged blocks) = blocks_line (codes "blocks that differ:") blocks
 change_lines (CodesChanged blocks) = blocks_line (codes "blocks whose read codes differ:") blocks
 

@@ -70,8 +70,8 @@ unfoldable pub slot_changes : DumpView → DumpView → ℕ → List DumpChange
 slot_changes old new count = flat_map (λ slot. slot_change (row_at old slot) (row_at new slot)) (range_with_len 0 count)
 
 -- the blocks whose bytes differ, and those that only the larger one of two images has, ascending
-abbrev pub changed_blocks : Disk → Disk → Blocks
-changed_blocks old new = if nat_lt (length old) (length new) then differences new old else differences old new
+abbrev pub differing_blocks : Disk → Disk → Blocks
+differing_blocks old new = if nat_lt (length old) (length new) then differences new old else differences old new
 
 -- a block's read codes differ, and are not both good
 abbrev pub has_other_code : Option Bytes → Option Bytes → ℕ → Bool
@@ -95,4 +95,4 @@ unfoldable pub changes : DumpView → DumpView → List DumpChange
 changes old new =
     disk_change old new
     ++ (slot_changes old new (slot_count old new)
-    ++ (where_any BlocksChanged (changed_blocks old.image new.image) ++ where_any CodesChanged (changed_codes old new)))
+    ++ (where_any BlocksChanged (differing_blocks old.image new.image) ++ where_any CodesChanged (changed_codes old new)))

@@ -60,9 +60,9 @@ printed_difference Json old_name new_name old new = printed_changes Json (change
 
 -- the line on standard error of a file that is not compared: it cannot be read, with the reason, or
 -- it is not a dump
-abbrev pub fault_line : Bytes → Contents → List ℕ
-fault_line name (Err reason) = with_known_reason reason (unread_line name)
-fault_line name (Ok bytes) = if is_some (dump_of bytes) then [] else wrong_length_line name bytes
+abbrev pub uncompared_line : Bytes → Contents → List ℕ
+uncompared_line name (Err reason) = with_known_reason reason (unread_line name)
+uncompared_line name (Ok bytes) = if is_some (dump_of bytes) then [] else wrong_length_line name bytes
 
 -- what is printed of such a file
 abbrev pub printed_fault : DiffForm → Bytes → Contents → List ℕ
@@ -73,7 +73,7 @@ printed_fault Json name (Ok bytes) = if is_some (dump_of bytes) then [] else lin
 -- the result if one of two files, or both, cannot be compared
 abbrev pub unanswered_pair : DiffForm → Bytes → Contents → Bytes → Contents → Answer
 unanswered_pair form old_name old new_name new =
-    record { printed = printed_fault form old_name old ++ printed_fault form new_name new; complaint = fault_line old_name old ++ fault_line new_name new; verdict = Failed }
+    record { printed = printed_fault form old_name old ++ printed_fault form new_name new; complaint = uncompared_line old_name old ++ uncompared_line new_name new; verdict = Failed }
 
 -- the result for two dumps that differ in a byte
 abbrev pub amiss_with : List ℕ → Answer

@@ -1,7 +1,7 @@
 //! The blocks in which two dumps differ.
 ghost use Rattle.std.specs.Prelude.{◌≡◌, ◌++◌, ◌∷◌, [], if◌then◌else◌, length, min, option_map, OnOk};
 ghost use Rattle.d64_image.specs.Image.{differences};
-ghost use Rattle.cmd_diff.specs.Changes.{changed_blocks, has_other_code, other_codes, changed_codes};
+ghost use Rattle.cmd_diff.specs.Changes.{differing_blocks, has_other_code, other_codes, changed_codes};
 
 use d64_image::{BlockNo, Image};
 use d64_survey::{Inspection, code_of, is_read_error};
@@ -42,7 +42,7 @@ pub fn list_changed_blocks(
     new: &Image,
     blocks: &mut Vec<BlockNo>,
 ) -> Result<(), AllocError>
-    ensures { OnOk result (blocks.new.items ≡ changed_blocks old.now new.now) }
+    ensures { OnOk result (blocks.new.items ≡ differing_blocks old.now new.now) }
 {
     if old.tracks() < new.tracks() {
         list_differences(new, old, blocks)

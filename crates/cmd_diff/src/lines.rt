@@ -1,8 +1,8 @@
 //! What is printed of a change for people.
 ghost use Rattle.std.specs.Prelude.{◌≡◌, ◌++◌, OnOk};
 ghost use Rattle.std.specs.List.{flat_map};
-ghost use Rattle.cmd_files.specs.FileTable.{file_line};
-ghost use Rattle.cmd_diff.specs.ChangeText.{codes_text, dos_text, tracks_text, free_text, size_text, disk_line, old_line, new_line, same_line, both_lines, listed_block, blocks_line, heading};
+ghost use Rattle.cmd_files.specs.FileTable.{slot_line};
+ghost use Rattle.cmd_diff.specs.ChangeText.{read_codes_text, dos_text, tracks_text, free_text, disk_size_text, disk_line, old_line, new_line, same_line, both_lines, listed_block, blocks_line, heading};
 
 use cmd_files::push_file_line;
 use d64_files::disk_dos;
@@ -27,7 +27,7 @@ pub(crate) const OTHER_CODES: &[u8] = b"blocks whose read codes differ:";
 
 /// Returns what ends the disk's line.
 fn codes_text(has_codes: bool) -> &'static [u8]
-    ensures { result.now ≡ codes_text has_codes }
+    ensures { result.now ≡ read_codes_text has_codes }
 {
     if has_codes {
         b", with read codes\n"
@@ -65,9 +65,9 @@ fn push_free(out: &mut Vec<u8>, image: &Image) -> Result<(), AllocError>
 }
 
 /// Appends what the disk's line says after its label.
-#[tactic(auto, unfolding(crate::specs::ChangeText::size_text))]
+#[tactic(auto, unfolding(crate::specs::ChangeText::disk_size_text))]
 fn push_size(out: &mut Vec<u8>, all: &Inspection) -> Result<(), AllocError>
-    ensures { OnOk result (out.new.items ≡ out.old.items ++ size_text all.now) }
+    ensures { OnOk result (out.new.items ≡ out.old.items ++ disk_size_text all.now) }
 {
     push_dos(out, all.image())?;
     push_tracks(out, all.image())?;
@@ -141,7 +141,7 @@ pub(crate) fn push_removed(
     out: &mut Vec<u8>,
     row: &FileRow,
 ) -> Result<(), AllocError>
-    ensures { OnOk result (out.new.items ≡ out.old.items ++ old_line (file_line row.now)) }
+    ensures { OnOk result (out.new.items ≡ out.old.items ++ old_line (slot_line row.now)) }
 {
     out.extend_from_slice(OLD)?;
     push_file_line(scratch, out, row)
@@ -153,7 +153,7 @@ pub(crate) fn push_added(
     out: &mut Vec<u8>,
     row: &FileRow,
 ) -> Result<(), AllocError>
-    ensures { OnOk result (out.new.items ≡ out.old.items ++ new_line (file_line row.now)) }
+    ensures { OnOk result (out.new.items ≡ out.old.items ++ new_line (slot_line row.now)) }
 {
     out.extend_from_slice(NEW)?;
     push_file_line(scratch, out, row)

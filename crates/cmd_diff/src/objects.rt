@@ -1,11 +1,11 @@
 //! What is printed of a change as JSON.
 ghost use Rattle.std.specs.Prelude.{◌≡◌, [], ◌∷◌, ◌++◌, map, codes, option_map, IfOk};
 ghost use Rattle.json.specs.Json.{string};
-ghost use Rattle.out_json_csv.specs.Pairs.{block_text as block_text_of};
+ghost use Rattle.out_json_csv.specs.Pairs.{block_field as block_text_of};
 ghost use Rattle.out_json_csv.specs.Values.{Prints, PrintsMembers, array_of, line_of};
 ghost use Rattle.out_json_csv.specs.Checks.{label_members};
 ghost use Rattle.cmd_diff.specs.Changes.{DiskChanged, size_members, free_members, disk_object, entry_object};
-ghost use Rattle.cmd_diff.specs.ChangeObject.{change_member, entry_value, slot_members, entry_members, slot_object, disk_members, block_value, blocks_member, blocks_object, change_object};
+ghost use Rattle.cmd_diff.specs.ChangeObject.{change_member, entry_value, changed_slot_members, changed_entry_members, slot_object, disk_members, block_value, blocks_member, blocks_object, change_object};
 
 use arrayvec::ArrayString;
 use cmd_files::put_file_members;
@@ -198,7 +198,7 @@ pub(crate) fn disks_json(
 
 /// Prints a slot and how it changed.
 fn put_slot(writer: &mut Writer, slot: usize, word: &str) -> Result<(), AllocError>
-    ensures { PrintsMembers result writer.old writer.new (slot_members slot word.now) }
+    ensures { PrintsMembers result writer.old writer.new (changed_slot_members slot word.now) }
 {
     put_number(writer, "slot", slot as u64)?;
     put_text(writer, "change", word)
@@ -211,7 +211,7 @@ fn put_files(
     old: Option<&FileRow>,
     new: Option<&FileRow>,
 ) -> Result<(), AllocError>
-    ensures { PrintsMembers result writer.old writer.new (entry_members (option_map (λ row. row.now) old.entry) (option_map (λ row. row.now) new.entry)) }
+    ensures { PrintsMembers result writer.old writer.new (changed_entry_members (option_map (λ row. row.now) old.entry) (option_map (λ row. row.now) new.entry)) }
 {
     put_file(scratch, writer, "old", old)?;
     put_file(scratch, writer, "new", new)

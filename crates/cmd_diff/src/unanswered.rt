@@ -1,7 +1,7 @@
 //! What is printed of a file that cannot be compared.
 ghost use Rattle.std.specs.Prelude.{◌≡◌, ◌++◌, [], Ok, length, is_some, IfOk, OnOk};
 ghost use Rattle.d64_g64.specs.DumpOf.{dump_of};
-ghost use Rattle.cmd_diff.specs.Differences.{contents_by, fault_line, printed_fault};
+ghost use Rattle.cmd_diff.specs.Differences.{contents_by, uncompared_line, printed_fault};
 
 use d64_g64::is_dump;
 use out_json_csv::{Scratch, no_dump_json, unread_json};
@@ -17,7 +17,7 @@ pub fn push_fault_line(
     name: &[u8],
     contents: Result<&[u8], Option<Reason>>,
 ) -> Result<(), AllocError>
-    ensures { out.old.items ≡ [] → OnOk result (out.new.items ≡ fault_line name.now (contents_by (λ bytes. bytes.now) contents.entry)) }
+    ensures { out.old.items ≡ [] → OnOk result (out.new.items ≡ uncompared_line name.now (contents_by (λ bytes. bytes.now) contents.entry)) }
 {
     match contents {
         Ok(bytes) if is_dump(bytes) => Ok(()),
@@ -39,7 +39,7 @@ pub(crate) fn push_fault_lines(
     new_name: &[u8],
     new: Result<&[u8], Option<Reason>>,
 ) -> Result<(), AllocError>
-    ensures { out.old.items ≡ [] → OnOk result (out.new.items ≡ fault_line old_name.now (contents_by (λ bytes. bytes.now) old.entry) ++ fault_line new_name.now (contents_by (λ bytes. bytes.now) new.entry)) }
+    ensures { out.old.items ≡ [] → OnOk result (out.new.items ≡ uncompared_line old_name.now (contents_by (λ bytes. bytes.now) old.entry) ++ uncompared_line new_name.now (contents_by (λ bytes. bytes.now) new.entry)) }
 {
     push_fault_line(out, old_name, old)?;
     let mut line = Vec::new(alloc);

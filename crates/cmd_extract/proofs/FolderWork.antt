@@ -3,12 +3,12 @@ use Rattle.std.proofs.Common.{◌≡◌, ℕ, Bool, true, false, cond, List, Opt
 use Rattle.program_batch.specs.Reasons.{IsWriteReason}
 use Rattle.program_batch.specs.declared.reason.Reason.{Reason}
 use Rattle.host_storage.specs.Files.{HostState}
-use Rattle.d64_leftovers.specs.Rows.{rows}
+use Rattle.d64_leftovers.specs.Rows.{wanted_rows}
 use Rattle.cmd_files.specs.Selections.{files_and}
 use Rattle.cmd_extract.specs.Setup.{TaskView}
 use Rattle.cmd_extract.specs.Paths.{path_inside, list_in}
-use Rattle.cmd_extract.specs.Progress.{Progress, first_progress}
-use Rattle.cmd_extract.specs.Work.{Work, Done, Then, Why, Look, NewFolder, Rename, Says, LeadsTo}
+use Rattle.cmd_extract.specs.Progress.{Progress, progress_before_files}
+use Rattle.cmd_extract.specs.Work.{Work, Done, Then, Why, Look, NewFolder, Rename, CallReturns, LeadsTo}
 use Rattle.cmd_extract.specs.Unpacking.{unfinished_answer, finished_answer, unnamed_answer, unmade_answer, present_answer, skipped_answer, after_naming, name_work, unmade_work, files_work, folder_work, folders_work, folder_after, present_work, task_work_with}
 use Rattle.cmd_extract.proofs.Steps.{called, explained, further, nothing_yet}
 
@@ -18,7 +18,7 @@ unfolding name_work
 not_named task p failed = sym (ap (λ (t : Bool). cond t (Done (unfinished_answer p)) (Then (Rename task.partial task.done) (after_naming task p))) failed)
 
 -- the folder is given its name
-pub renamed : (task : TaskView) (p : Progress) (old now : HostState) (said : Bool) → p.has_failed ≡ false → Says (Rename task.partial task.done) old said now
+pub renamed : (task : TaskView) (p : Progress) (old now : HostState) (said : Bool) → p.has_failed ≡ false → CallReturns (Rename task.partial task.done) old said now
     → LeadsTo (name_work task p) old (after_naming task p said) now
 unfolding name_work
 renamed task p old now said unfailed says =
@@ -42,40 +42,40 @@ abbrev named_folder : TaskView → List ℕ → Bool → List ℕ
 named_folder task path is_there = cond is_there path task.setup.into
 
 -- a folder cannot be made, and the host gave the reason
-unmade : (task : TaskView) (path into : List ℕ) (host : HostState) (said : Bool) (reason : Option Reason) → into ≡ task.setup.into → Says (Look into) host said host → IsWriteReason host.files reason
+unmade : (task : TaskView) (path into : List ℕ) (host : HostState) (said : Bool) (reason : Option Reason) → into ≡ task.setup.into → CallReturns (Look into) host said host → IsWriteReason host.files reason
     → LeadsTo (unmade_work task path) host (Done (unmade_answer task (named_folder task path said) reason)) host
 unfolding unmade_work
 unmade task path into host said reason is_into says why =
     further _ (Why (λ (r : Option Reason). Done (unmade_answer task (named_folder task path said) r))) _ host host host
     (called (Look task.setup.into) (λ is_there. Why (λ reason. Done (unmade_answer task (named_folder task path is_there) reason))) host host said
-    (subst (λ (q : List ℕ). Says (Look q) host said host) is_into says))
+    (subst (λ (q : List ℕ). CallReturns (Look q) host said host) is_into says))
     (explained (λ (r : Option Reason). Done (unmade_answer task (named_folder task path said) r)) host reason why)
 
-pub unmade_at : (task : TaskView) (path into : List ℕ) (host : HostState) (said : Bool) (reason : Option Reason) → into ≡ task.setup.into → Says (Look into) host said host → IsWriteReason host.files reason → said ≡ true
+pub unmade_at : (task : TaskView) (path into : List ℕ) (host : HostState) (said : Bool) (reason : Option Reason) → into ≡ task.setup.into → CallReturns (Look into) host said host → IsWriteReason host.files reason → said ≡ true
     → LeadsTo (unmade_work task path) host (Done (unmade_answer task path reason)) host
 unmade_at task path into host said reason is_into says why is =
     subst (λ (s : Bool). LeadsTo (unmade_work task path) host (Done (unmade_answer task (named_folder task path s) reason)) host) is (unmade task path into host said reason is_into says why)
 
-pub unmade_below : (task : TaskView) (path into : List ℕ) (host : HostState) (said : Bool) (reason : Option Reason) → into ≡ task.setup.into → Says (Look into) host said host → IsWriteReason host.files reason → said ≡ false
+pub unmade_below : (task : TaskView) (path into : List ℕ) (host : HostState) (said : Bool) (reason : Option Reason) → into ≡ task.setup.into → CallReturns (Look into) host said host → IsWriteReason host.files reason → said ≡ false
     → LeadsTo (unmade_work task path) host (Done (unmade_answer task task.setup.into reason)) host
 unmade_below task path into host said reason is_into says why is =
     subst (λ (s : Bool). LeadsTo (unmade_work task path) host (Done (unmade_answer task (named_folder task path s) reason)) host) is (unmade task path into host said reason is_into says why)
 
 -- the image's folder was made
-pub made : (task : TaskView) (path : List ℕ) (old now : HostState) (said : Bool) → path ≡ task.partial → Says (NewFolder path) old said now → said ≡ true
-    → LeadsTo (folder_work task) old (files_work task (rows (files_and task.setup.form.leftovers) task.dump) (first_progress task)) now
+pub made : (task : TaskView) (path : List ℕ) (old now : HostState) (said : Bool) → path ≡ task.partial → CallReturns (NewFolder path) old said now → said ≡ true
+    → LeadsTo (folder_work task) old (files_work task (wanted_rows (files_and task.setup.form.leftovers) task.dump) (progress_before_files task)) now
 unfolding folder_work
 made task path old now said is_path says is_said =
-    called (NewFolder task.partial) (λ is_made. cond is_made (files_work task (rows (files_and task.setup.form.leftovers) task.dump) (first_progress task)) (unmade_work task task.partial)) old now true
-    (subst (λ (s : Bool). Says (NewFolder task.partial) old s now) is_said (subst (λ (q : List ℕ). Says (NewFolder q) old said now) is_path says))
+    called (NewFolder task.partial) (λ is_made. cond is_made (files_work task (wanted_rows (files_and task.setup.form.leftovers) task.dump) (progress_before_files task)) (unmade_work task task.partial)) old now true
+    (subst (λ (s : Bool). CallReturns (NewFolder task.partial) old s now) is_said (subst (λ (q : List ℕ). CallReturns (NewFolder q) old said now) is_path says))
 
 -- or wasn't
-pub not_made : (task : TaskView) (path : List ℕ) (old now : HostState) (said : Bool) → path ≡ task.partial → Says (NewFolder path) old said now → said ≡ false
+pub not_made : (task : TaskView) (path : List ℕ) (old now : HostState) (said : Bool) → path ≡ task.partial → CallReturns (NewFolder path) old said now → said ≡ false
     → LeadsTo (folder_work task) old (unmade_work task task.partial) now
 unfolding folder_work
 not_made task path old now said is_path says is_said =
-    called (NewFolder task.partial) (λ is_made. cond is_made (files_work task (rows (files_and task.setup.form.leftovers) task.dump) (first_progress task)) (unmade_work task task.partial)) old now false
-    (subst (λ (s : Bool). Says (NewFolder task.partial) old s now) is_said (subst (λ (q : List ℕ). Says (NewFolder q) old said now) is_path says))
+    called (NewFolder task.partial) (λ is_made. cond is_made (files_work task (wanted_rows (files_and task.setup.form.leftovers) task.dump) (progress_before_files task)) (unmade_work task task.partial)) old now false
+    (subst (λ (s : Bool). CallReturns (NewFolder task.partial) old s now) is_said (subst (λ (q : List ℕ). CallReturns (NewFolder q) old said now) is_path says))
 
 -- what comes after the look at the folder that isn't there
 abbrev after_look : TaskView → List (List ℕ) → Work
@@ -86,12 +86,12 @@ abbrev look_work : TaskView → List (List ℕ) → Work
 look_work task folders = Then (Look task.done) (λ is_done. cond is_done (present_work task) (after_look task folders))
 
 -- the image's folder is there
-pub is_done : (task : TaskView) (folders : List (List ℕ)) (path : List ℕ) (old now : HostState) (said : Bool) → path ≡ task.done → Says (Look path) old said now → said ≡ true
+pub is_done : (task : TaskView) (folders : List (List ℕ)) (path : List ℕ) (old now : HostState) (said : Bool) → path ≡ task.done → CallReturns (Look path) old said now → said ≡ true
     → LeadsTo (task_work_with task folders) old (present_work task) now
 unfolding task_work_with
 is_done task folders path old now said is_path says is_said =
     called (Look task.done) (λ is_done. cond is_done (present_work task) (after_look task folders)) old now true
-    (subst (λ (s : Bool). Says (Look task.done) old s now) is_said (subst (λ (q : List ℕ). Says (Look q) old said now) is_path says))
+    (subst (λ (s : Bool). CallReturns (Look task.done) old s now) is_said (subst (λ (q : List ℕ). CallReturns (Look q) old said now) is_path says))
 
 -- what is there is not to be passed over
 pub not_skipped : (task : TaskView) → task.setup.skips ≡ false → Done (present_answer task task.done) ≡ present_work task
@@ -100,33 +100,33 @@ not_skipped task is =
     sym (ap (λ (t : Bool). cond t (Then (Look (list_in task.done)) (λ is_complete. Done (cond is_complete (skipped_answer task) (present_answer task task.done)))) (Done (present_answer task task.done))) is)
 
 -- it may be, and it was looked for the list in it
-pub looked_into : (task : TaskView) (path : List ℕ) (host : HostState) (said : Bool) → task.setup.skips ≡ true → path ≡ list_in task.done → Says (Look path) host said host
+pub looked_into : (task : TaskView) (path : List ℕ) (host : HostState) (said : Bool) → task.setup.skips ≡ true → path ≡ list_in task.done → CallReturns (Look path) host said host
     → LeadsTo (present_work task) host (Done (cond said (skipped_answer task) (present_answer task task.done))) host
 unfolding present_work
 looked_into task path host said is is_path says =
     subst (λ (t : Bool). LeadsTo (cond t (Then (Look (list_in task.done)) (λ is_complete. Done (cond is_complete (skipped_answer task) (present_answer task task.done)))) (Done (present_answer task task.done))) host
     (Done (cond said (skipped_answer task) (present_answer task task.done))) host) (sym is)
     (called (Look (list_in task.done)) (λ is_complete. Done (cond is_complete (skipped_answer task) (present_answer task task.done))) host host said
-    (subst (λ (q : List ℕ). Says (Look q) host said host) is_path says))
+    (subst (λ (q : List ℕ). CallReturns (Look q) host said host) is_path says))
 
 -- it isn't
-pub not_done : (task : TaskView) (folders : List (List ℕ)) (path : List ℕ) (old now : HostState) (said : Bool) → path ≡ task.done → Says (Look path) old said now → said ≡ false
+pub not_done : (task : TaskView) (folders : List (List ℕ)) (path : List ℕ) (old now : HostState) (said : Bool) → path ≡ task.done → CallReturns (Look path) old said now → said ≡ false
     → LeadsTo (task_work_with task folders) old (after_look task folders) now
 unfolding task_work_with
 not_done task folders path old now said is_path says is_said =
     called (Look task.done) (λ is_done. cond is_done (present_work task) (after_look task folders)) old now false
-    (subst (λ (s : Bool). Says (Look task.done) old s now) is_said (subst (λ (q : List ℕ). Says (Look q) old said now) is_path says))
+    (subst (λ (s : Bool). CallReturns (Look task.done) old s now) is_said (subst (λ (q : List ℕ). CallReturns (Look q) old said now) is_path says))
 
 -- what it is before is there
-pub is_begun : (task : TaskView) (folders : List (List ℕ)) (path : List ℕ) (old now : HostState) (said : Bool) → path ≡ task.partial → Says (Look path) old said now → said ≡ true
+pub is_begun : (task : TaskView) (folders : List (List ℕ)) (path : List ℕ) (old now : HostState) (said : Bool) → path ≡ task.partial → CallReturns (Look path) old said now → said ≡ true
     → LeadsTo (after_look task folders) old (Done (present_answer task task.partial)) now
 is_begun task folders path old now said is_path says is_said =
     called (Look task.partial) (λ is_begun. cond is_begun (Done (present_answer task task.partial)) (folders_work (folder_after task) (path_inside task.setup.into) folders)) old now true
-    (subst (λ (s : Bool). Says (Look task.partial) old s now) is_said (subst (λ (q : List ℕ). Says (Look q) old said now) is_path says))
+    (subst (λ (s : Bool). CallReturns (Look task.partial) old s now) is_said (subst (λ (q : List ℕ). CallReturns (Look q) old said now) is_path says))
 
 -- neither is
-pub not_begun : (task : TaskView) (folders : List (List ℕ)) (path : List ℕ) (old now : HostState) (said : Bool) → path ≡ task.partial → Says (Look path) old said now → said ≡ false
+pub not_begun : (task : TaskView) (folders : List (List ℕ)) (path : List ℕ) (old now : HostState) (said : Bool) → path ≡ task.partial → CallReturns (Look path) old said now → said ≡ false
     → LeadsTo (after_look task folders) old (folders_work (folder_after task) (path_inside task.setup.into) folders) now
 not_begun task folders path old now said is_path says is_said =
     called (Look task.partial) (λ is_begun. cond is_begun (Done (present_answer task task.partial)) (folders_work (folder_after task) (path_inside task.setup.into) folders)) old now false
-    (subst (λ (s : Bool). Says (Look task.partial) old s now) is_said (subst (λ (q : List ℕ). Says (Look q) old said now) is_path says))
+    (subst (λ (s : Bool). CallReturns (Look task.partial) old s now) is_said (subst (λ (q : List ℕ). CallReturns (Look q) old said now) is_path says))

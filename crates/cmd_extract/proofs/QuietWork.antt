@@ -4,7 +4,7 @@ use Rattle.std.specs.Prelude.{is_some, nat_lt, length}
 use Rattle.std.specs.Str.{is_utf8}
 use Rattle.host_storage.specs.Files.{HostState}
 use Rattle.d64_survey.specs.Dump.{DumpView}
-use Rattle.d64_leftovers.specs.Rows.{rows}
+use Rattle.d64_leftovers.specs.Rows.{wanted_rows}
 use Rattle.d64_leftovers.specs.declared.row.Row.{Row}
 use Rattle.cmd_extract_contents.specs.Portions.{Portion}
 use Rattle.cmd_extract_contents.specs.Limits.{portion_within}
@@ -15,10 +15,10 @@ use Rattle.program_batch.specs.declared.report.Verdict.TheVariants.{Clean, Amiss
 use Rattle.host_names.specs.ImagePlace.{folders_of}
 use Rattle.d64_inventory.specs.ListingAmiss.{is_listing_amiss}
 use Rattle.cmd_files.specs.Selections.{files_and}
-use Rattle.cmd_extract.specs.Setup.{SetupView, TaskView}
+use Rattle.cmd_extract.specs.Setup.{ExtractSetupView, TaskView}
 use Rattle.cmd_extract.specs.Paths.{path_inside, with_slash, list_in, path_in}
-use Rattle.cmd_extract.specs.Work.{Work, Done, Then, Why, Look, Rename, Does}
-use Rattle.cmd_extract.specs.Progress.{Progress, waiting_limit, first_progress, portion_of, row_name, reported_progress, spent_progress, named_progress, written_progress, unwritten_progress, failed_at, put_progress, unput_progress, dropped_progress}
+use Rattle.cmd_extract.specs.Work.{Work, Done, Then, Why, Look, Rename, DoesWork}
+use Rattle.cmd_extract.specs.Progress.{Progress, waiting_limit, progress_before_files, portion_of, row_name, reported_progress, spent_progress, named_progress, written_progress, unwritten_progress, failed_at, put_progress, unput_progress, dropped_progress}
 use Rattle.cmd_extract.specs.declared.list_state.ListState.{ListState}
 use Rattle.cmd_extract.specs.declared.list_state.ListState.TheVariants.{New, Begun, GivenUp}
 use Rattle.program_batch.specs.declared.reason.Reason.{Reason}
@@ -32,8 +32,8 @@ IsQuietWork (Then call next) = (said : Bool) → IsQuietWork (next said)
 IsQuietWork (Why next) = (reason : Option Reason) → IsQuietWork (next reason)
 
 -- then a clean result has none
-does_quietly : (work : Work) (old new : HostState) (answer : Answer) → IsQuietWork work → Does work old (Some answer) new → answer.verdict ≡ Clean → answer.complaint ≡ []
-unfolding Does IsQuietWork
+does_quietly : (work : Work) (old new : HostState) (answer : Answer) → IsQuietWork work → DoesWork work old (Some answer) new → answer.verdict ≡ Clean → answer.complaint ≡ []
+unfolding DoesWork IsQuietWork
 does_quietly (Done reported) old new answer quiet (same, inl is) clean =
     let e : answer ≡ reported = cc in
     ap (λ (a : Answer). a.complaint) e ∙ quiet (sym (ap (λ (a : Answer). a.verdict) e) ∙ clean)
@@ -128,9 +128,9 @@ file_quiet task row p (Some portion) rest quiet later = by_writing
 files_quiet : (task : TaskView) (rows : List Row) (p : Progress) → IsQuietSoFar p → IsQuietWork (files_work task rows p)
 unfolding files_work
 files_quiet task [] p quiet = listed_quiet task (closed_progress task p) (closed_quiet task p quiet)
-files_quiet task (row ∷ rows) p quiet =
-    file_quiet task row (spent_progress task row p) (portion_within p.left (portion_of task row)) (λ (q : Progress). wait_work task q (files_work task rows)) quiet
-    (λ q is_quiet. wait_quiet task q (files_work task rows) is_quiet (λ r. files_quiet task rows r))
+files_quiet task (row ∷ wanted_rows) p quiet =
+    file_quiet task row (spent_progress task row p) (portion_within p.left (portion_of task row)) (λ (q : Progress). wait_work task q (files_work task wanted_rows)) quiet
+    (λ q is_quiet. wait_quiet task q (files_work task wanted_rows) is_quiet (λ r. files_quiet task wanted_rows r))
 
 -- the folders, and what is in them
 unmade_quiet : (task : TaskView) (path : List ℕ) → IsQuietWork (unmade_work task path)
@@ -139,7 +139,7 @@ unmade_quiet task path = λ is_there reason clean. absurd (let e : Failed ≡ Cl
 
 folder_quiet : (task : TaskView) → IsQuietWork (folder_work task)
 unfolding folder_work IsQuietWork
-folder_quiet task true = files_quiet task (rows (files_and task.setup.form.leftovers) task.dump) (first_progress task) (λ unfailed. refl)
+folder_quiet task true = files_quiet task (wanted_rows (files_and task.setup.form.leftovers) task.dump) (progress_before_files task) (λ unfailed. refl)
 folder_quiet task false = unmade_quiet task task.partial
 
 after_quiet : (task : TaskView) (unmade : Option (List ℕ)) → IsQuietWork (folder_after task unmade)
@@ -171,12 +171,12 @@ task_quiet task folders skips false = by_begun
     by_begun true = λ clean. absurd (let e : Failed ≡ Clean = clean in cc)
     by_begun false = folders_quiet task (path_inside task.setup.into) folders
 
-dump_quiet : (setup : SetupView) (name bytes : List ℕ) (dump : Option DumpView) → setup.skips ≡ false → IsQuietWork (dump_work setup name bytes dump)
+dump_quiet : (setup : ExtractSetupView) (name bytes : List ℕ) (dump : Option DumpView) → setup.skips ≡ false → IsQuietWork (dump_work setup name bytes dump)
 unfolding IsQuietWork
 dump_quiet setup name bytes None skips = λ clean. absurd (let e : Failed ≡ Clean = clean in cc)
 dump_quiet setup name bytes (Some dump) skips = task_quiet (task_of setup name dump) (folders_of name) skips
 
-unpacking_quiet : (setup : SetupView) (name : List ℕ) (bytes : Option (List ℕ)) → setup.skips ≡ false → IsQuietWork (unpacking setup name bytes)
+unpacking_quiet : (setup : ExtractSetupView) (name : List ℕ) (bytes : Option (List ℕ)) → setup.skips ≡ false → IsQuietWork (unpacking setup name bytes)
 unfolding unpacking IsQuietWork
 unpacking_quiet setup name None skips = λ clean. absurd (let e : Failed ≡ Clean = clean in cc)
 unpacking_quiet setup name (Some bytes) skips = by_text (is_utf8 name)

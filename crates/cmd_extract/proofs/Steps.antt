@@ -7,29 +7,29 @@ use Rattle.program_batch.specs.Reasons.{IsWriteReason}
 use Rattle.program_batch.specs.declared.reason.Reason.{Reason}
 use Rattle.program_batch.specs.declared.report.Verdict.{Verdict}
 use Rattle.program_batch.specs.declared.report.ReportBuffer.{ReportBuffer}
-use Rattle.cmd_extract.specs.Work.{Work, Done, Then, Why, HostCall, Says, Does, LeadsTo, Comes, Ends, answer_in}
+use Rattle.cmd_extract.specs.Work.{Work, Done, Then, Why, HostCall, CallReturns, DoesWork, LeadsTo, Comes, EndsWork, answer_in}
 use Rattle.cmd_extract.specs.Progress.{Progress}
 
 -- memory may run out before anything is done
-pub stops : (work : Work) (host : HostState) → Does work host None host
-unfolding Does
+pub stops : (work : Work) (host : HostState) → DoesWork work host None host
+unfolding DoesWork
 stops (Done answer) host = (refl, inr refl)
 stops (Then call next) host = inr (refl, refl)
 stops (Why next) host = inr (refl, refl)
 
 -- work that is done has its result
-pub answers : (answer : Answer) (host : HostState) → Does (Done answer) host (Some answer) host
-unfolding Does
+pub answers : (answer : Answer) (host : HostState) → DoesWork (Done answer) host (Some answer) host
+unfolding DoesWork
 answers answer host = (refl, inl refl)
 
 -- a call was made
-pub called : (call : HostCall) (next : Bool → Work) (old now : HostState) (said : Bool) → Says call old said now → LeadsTo (Then call next) old (next said) now
-unfolding Does
+pub called : (call : HostCall) (next : Bool → Work) (old now : HostState) (said : Bool) → CallReturns call old said now → LeadsTo (Then call next) old (next said) now
+unfolding DoesWork
 called call next old now said says = λ given new done. inl (said, now, says, done)
 
 -- the host gave the reason why a call was refused
 pub explained : (next : Option Reason → Work) (host : HostState) (reason : Option Reason) → IsWriteReason host.files reason → LeadsTo (Why next) host (next reason) host
-unfolding Does
+unfolding DoesWork
 explained next host reason says = λ given new done. inl (reason, says, done)
 
 -- one part of the way after another
@@ -57,7 +57,7 @@ pub nothing_yet : (work : Work) (host : HostState) → LeadsTo work host work ho
 nothing_yet work host = λ given new done. done
 
 -- memory ran out
-pub comes_not : {A E : Type 0} (result : Result A E) (work rest : Work) (old now : HostState) → IsErr result → Does work old None now → Comes result work old rest now
+pub comes_not : {A E : Type 0} (result : Result A E) (work rest : Work) (old now : HostState) → IsErr result → DoesWork work old None now → Comes result work old rest now
 comes_not (Ok done) work rest old now is stopped = absurd (let f : false ≡ true = is in cc)
 comes_not (Err fault) work rest old now is stopped = stopped
 
@@ -68,18 +68,18 @@ match_not (Err fault) P Q is holds = holds
 
 -- one part of the way, and then the end
 pub ends_after : {E : Type 0} (result : Result Verdict E) (buffer : ReportBuffer) (work middle : Work) (old reached now : HostState) → LeadsTo work old middle reached
-    → Ends result buffer middle reached now → Ends result buffer work old now
+    → EndsWork result buffer middle reached now → EndsWork result buffer work old now
 ends_after (Ok verdict) buffer work middle old reached now first second = first (Some (answer_in buffer verdict)) now second
 ends_after (Err fault) buffer work middle old reached now first second = first None now second
 
 -- the end with a result
 pub ends_with : {E : Type 0} (result : Result Verdict E) (buffer : ReportBuffer) (answer : Answer) (host : HostState) → IfOk result (λ verdict. answer_in buffer verdict ≡ answer)
-    → Ends result buffer (Done answer) host host
-unfolding Does
+    → EndsWork result buffer (Done answer) host host
+unfolding DoesWork
 ends_with (Ok verdict) buffer answer host is = (refl, inl (ap (λ (a : Answer). Some a) is))
 ends_with (Err fault) buffer answer host is = (refl, inr refl)
 
 -- the end as memory ran out
-pub ends_not : {E : Type 0} (result : Result Verdict E) (buffer : ReportBuffer) (work : Work) (old now : HostState) → IsErr result → Does work old None now → Ends result buffer work old now
+pub ends_not : {E : Type 0} (result : Result Verdict E) (buffer : ReportBuffer) (work : Work) (old now : HostState) → IsErr result → DoesWork work old None now → EndsWork result buffer work old now
 ends_not (Ok verdict) buffer work old now is stopped = absurd (let f : false ≡ true = is in cc)
 ends_not (Err fault) buffer work old now is stopped = stopped

@@ -6,7 +6,7 @@ use Rattle.std.proofs.lemmas.List.{append_assoc, append_cancel_left}
 use Rattle.std.proofs.lemmas.Slice.Eq.{bytes_eq-Decides}
 use Rattle.petscii.specs.Spelling.{spelling}
 use Rattle.d64_files.specs.Name.{name_in}
-use Rattle.d64_leftovers.specs.Rows.{rows}
+use Rattle.d64_leftovers.specs.Rows.{wanted_rows}
 use Rattle.d64_leftovers.specs.declared.row.Row.{Row}
 use Rattle.d64_leftovers.specs.declared.row.Row.TheVariants.{File, Deleted, Orphan}
 use Rattle.cmd_extract_contents.specs.Portions.{Portion}
@@ -14,7 +14,7 @@ use Rattle.cmd_extract_contents.specs.Limits.{portion_within}
 use Rattle.cmd_extract_contents.specs.declared.extent.Extent.{Extent}
 use Rattle.host_names.specs.declared.ending.Ending.{Ending}
 use Rattle.host_names.specs.declared.ending.Ending.TheVariants as endings
-use Rattle.host_names.specs.HostName.{ending_text, part_text, tail}
+use Rattle.host_names.specs.HostName.{ending_text, part_ending, tail}
 use Rattle.host_names.specs.TakenNames.{next_name}
 use Rattle.host_names.proofs.Tails.{rests, not_ended}
 use Rattle.host_names.proofs.SafeNames.{name_ends}
@@ -22,12 +22,12 @@ use Rattle.cmd_files.specs.Extracts.{as_json, printed_file}
 use Rattle.cmd_files.specs.Selections.{files_and}
 use Rattle.cmd_extract.specs.Setup.{TaskView}
 use Rattle.cmd_extract.specs.Paths.{path_in, with_slash, list_path}
-use Rattle.cmd_extract.specs.Progress.{Progress, waiting_limit, first_progress, portion_of, ending_by, is_part, orphan_stem, host_name, row_name, reported_progress, spent_progress, named_progress, written_progress, put_progress}
+use Rattle.cmd_extract.specs.Progress.{Progress, waiting_limit, progress_before_files, portion_of, ending_by, is_part, orphan_stem, host_name_of_row, row_name, reported_progress, spent_progress, named_progress, written_progress, put_progress}
 use Rattle.cmd_extract.specs.declared.list_state.ListState.{ListState}
 use Rattle.cmd_extract.specs.declared.list_state.ListState.TheVariants.{New, Begun, GivenUp}
 use Rattle.cmd_extract.specs.Work.{Work, Rename, Done, Then}
 use Rattle.cmd_extract.specs.Unpacking.{unfinished_answer, closed_progress, after_naming, name_work, put_work, wait_work, file_work, files_work, folder_work}
-use Rattle.cmd_extract.specs.ListedLines.{all_into, path_of, taken_after, lines_of}
+use Rattle.cmd_extract.specs.ListedLines.{all_into, path_of, taken_after, lines_of_rows}
 use Rattle.cmd_extract.specs.UnpackLaws.{ListIsWhole}
 
 -- the list is still tried
@@ -38,7 +38,7 @@ IsTried GivenUp = ⊥
 
 -- no name that ends as those of files do is that of the list
 not_the_list : (front : List ℕ) (ending : Ending) (in_part : Bool) → front ++ tail ending in_part ≢ codes "files.jsonl"
-unfolding tail ending_text part_text rests
+unfolding tail ending_text part_ending rests
 not_the_list front ending in_part is = not_ended (codes "files.jsonl") front ending in_part refl refl is
 
 -- so the path of a file isn't that of the list
@@ -52,7 +52,7 @@ other_named task taken text ending in_part =
     (sym ends.1 ∙ sym (append_cancel_left (with_slash task.partial) (codes "files.jsonl") name ((bytes_eq-Decides (list_path task) (path_in task.partial name)).0 same))))
 
 other_path : (task : TaskView) (taken : List (List ℕ)) (row : Row) (extent : Extent) → bytes_eq (list_path task) (path_in task.partial (row_name taken row extent)) ≡ false
-unfolding host_name row_name
+unfolding host_name_of_row row_name
 other_path task taken (File row) extent = other_named task taken (spelling (name_in row.field)) (ending_by row.kind) (is_part extent)
 other_path task taken (Deleted row) extent = other_named task taken (spelling (name_in row.field)) endings.Deleted (is_part extent)
 other_path task taken (Orphan row) extent = other_named task taken (orphan_stem row.first row.old) endings.Orphan (is_part extent)
@@ -79,33 +79,33 @@ put_into task GivenUp p rest tried = absurd tried
 
 -- what the files of rows put into it
 abbrev HasLines : TaskView → List Row → Progress → Type 0
-HasLines task later p = into_list task (files_work task later p) ≡ p.lines ++ lines_of task later p.left p.taken
+HasLines task later p = into_list task (files_work task later p) ≡ p.lines ++ lines_of_rows task later p.left p.taken
 
 wait_into : (task : TaskView) (later : List Row) (p : Progress) → IsTried p.list → ((q : Progress) → IsTried q.list → HasLines task later q)
-    → into_list task (wait_work task p (files_work task later)) ≡ p.lines ++ lines_of task later p.left p.taken
+    → into_list task (wait_work task p (files_work task later)) ≡ p.lines ++ lines_of_rows task later p.left p.taken
 unfolding wait_work
 wait_into task later p tried rest = by_length (nat_lt waiting_limit (length p.lines))
   where
-    by_length : (is_long : Bool) → into_list task (cond is_long (put_work p.list task p (files_work task later)) (files_work task later p)) ≡ p.lines ++ lines_of task later p.left p.taken
+    by_length : (is_long : Bool) → into_list task (cond is_long (put_work p.list task p (files_work task later)) (files_work task later p)) ≡ p.lines ++ lines_of_rows task later p.left p.taken
     by_length true = put_into task p.list p (files_work task later) tried ∙ ap (λ (e : List ℕ). p.lines ++ e) (rest (put_progress p) tt)
     by_length false = rest p tried
 
 file_into : (task : TaskView) (row : Row) (later : List Row) (p : Progress) (portion : Option Portion) → IsTried p.list → ((q : Progress) → IsTried q.list → HasLines task later q)
     → into_list task (file_work task row p portion (λ (q : Progress). wait_work task q (files_work task later)))
-    ≡ p.lines ++ (printed_file (as_json task.setup.form) task.name task.dump.image row (path_of task row p.taken portion) ++ lines_of task later p.left (taken_after row p.taken portion))
+    ≡ p.lines ++ (printed_file (as_json task.setup.form) task.name task.dump.image row (path_of task row p.taken portion) ++ lines_of_rows task later p.left (taken_after row p.taken portion))
 unfolding file_work reported_progress all_into
 file_into task row later p None tried rest =
     wait_into task later (reported_progress task row None p) tried rest
-    ∙ append_assoc p.lines (printed_file (as_json task.setup.form) task.name task.dump.image row None) (lines_of task later p.left p.taken)
+    ∙ append_assoc p.lines (printed_file (as_json task.setup.form) task.name task.dump.image row None) (lines_of_rows task later p.left p.taken)
 file_into task row later p (Some portion) tried rest =
     let file = row_name p.taken row portion.extent in
     let q = written_progress task row file (named_progress file p) in
     ap (λ (t : Bool). cond t portion.bytes [] ++ into_list task (wait_work task q (files_work task later))) (other_path task p.taken row portion.extent)
     ∙ wait_into task later q tried rest
-    ∙ append_assoc p.lines (printed_file (as_json task.setup.form) task.name task.dump.image row (Some (path_in task.done file))) (lines_of task later p.left (p.taken ++ file ∷ []))
+    ∙ append_assoc p.lines (printed_file (as_json task.setup.form) task.name task.dump.image row (Some (path_in task.done file))) (lines_of_rows task later p.left (p.taken ++ file ∷ []))
 
 files_into : (task : TaskView) (later : List Row) (p : Progress) → IsTried p.list → HasLines task later p
-unfolding files_work lines_of closed_progress
+unfolding files_work lines_of_rows closed_progress
 files_into task [] p tried =
     put_into task p.list (closed_progress task p) (name_work task) tried ∙ ap (λ (e : List ℕ). p.lines ++ e) (naming_none task (put_progress (closed_progress task p)))
 files_into task (row ∷ later) p tried =
@@ -113,4 +113,4 @@ files_into task (row ∷ later) p tried =
 
 pub list_is_whole : ListIsWhole
 unfolding folder_work all_into
-list_is_whole task = files_into task (rows (files_and task.setup.form.leftovers) task.dump) (first_progress task) tt
+list_is_whole task = files_into task (wanted_rows (files_and task.setup.form.leftovers) task.dump) (progress_before_files task) tt

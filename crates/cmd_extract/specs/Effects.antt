@@ -1,13 +1,13 @@
 -- What may be done as images are unpacked, one after another.
 use Rattle.std.specs.Prelude.{Some, None}
 use Rattle.program_batch.specs.Answers.{Effects}
-use Rattle.cmd_extract.specs.Setup.{SetupView}
-use Rattle.cmd_extract.specs.Work.{Does}
+use Rattle.cmd_extract.specs.Setup.{ExtractSetupView}
+use Rattle.cmd_extract.specs.Work.{DoesWork}
 use Rattle.cmd_extract.specs.Unpacking.{unpacking}
 
 -- each file is unpacked with these options; if memory runs out, what was done until then stays
-abbrev pub unpacks : SetupView → Effects
+abbrev pub unpacks : ExtractSetupView → Effects
 unpacks setup = record {
-  does = λ name bytes old answer new. Does (unpacking setup name bytes) old (Some answer) new;
-  halts = λ name bytes old new. Does (unpacking setup name bytes) old None new;
+  does = λ name bytes old answer new. DoesWork (unpacking setup name bytes) old (Some answer) new;
+  halts = λ name bytes old new. DoesWork (unpacking setup name bytes) old None new;
 }

@@ -3,8 +3,8 @@ use Rattle.cmd_extract.specs.Progress.{Progress}
 use Rattle.cmd_extract.specs.declared.files.Files.{Files}
 
 -- how far it has come, by the fields of `Files`
-abbrev pub progress_of : Files → Progress
-progress_of files = record {
+abbrev pub progress_of_files : Files → Progress
+progress_of_files files = record {
   left = files.extraction;
   taken = files.taken;
   printed = files.reported.printed.items;

@@ -36,9 +36,9 @@ taken_after row taken (Some portion) = taken ++ row_name taken row portion.exten
 
 -- the lines of rows, one after another, if later files may have this many bytes, and these names
 -- are taken
-unfoldable pub lines_of : TaskView → List Row → Option ℕ → List (List ℕ) → List ℕ
-lines_of task [] left taken = []
-lines_of task (row ∷ rows) left taken =
+unfoldable pub lines_of_rows : TaskView → List Row → Option ℕ → List (List ℕ) → List ℕ
+lines_of_rows task [] left taken = []
+lines_of_rows task (row ∷ rows) left taken =
     let portion = portion_within left (portion_of task row) in
     printed_file (as_json task.setup.form) task.name task.dump.image row (path_of task row taken portion)
-    ++ lines_of task rows (left_after left (portion_of task row)) (taken_after row taken portion)
+    ++ lines_of_rows task rows (left_after left (portion_of task row)) (taken_after row taken portion)

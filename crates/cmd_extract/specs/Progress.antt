@@ -45,8 +45,8 @@ pub record Progress : Type 0 where
   pub has_failed : Bool
 
 -- no file has come yet
-abbrev pub first_progress : TaskView → Progress
-first_progress task = record {
+abbrev pub progress_before_files : TaskView → Progress
+progress_before_files task = record {
   left = Some limit;
   taken = [];
   printed = before_rows task.setup.form.format task.name task.dump.image;
@@ -74,8 +74,8 @@ is_part extents.Content = false
 is_part extents.Part = true
 
 -- the host name of a file, where these are taken
-unfoldable pub host_name : List (List ℕ) → FileRowView → Extent → List ℕ
-host_name taken row extent = next_name taken (spelling (name_in row.field)) (ending_by row.kind) (is_part extent)
+unfoldable pub host_name_of_row : List (List ℕ) → FileRowView → Extent → List ℕ
+host_name_of_row taken row extent = next_name taken (spelling (name_in row.field)) (ending_by row.kind) (is_part extent)
 
 -- the track and the sector of a block, as in a host name
 abbrev pub pair_stem : ℕ × ℕ → List ℕ
@@ -88,7 +88,7 @@ orphan_stem first (Some old) = spelling (name_in old.field)
 
 -- the host name of the file of a row: a deleted file and an orphan have endings that say so
 unfoldable pub row_name : List (List ℕ) → Row → Extent → List ℕ
-row_name taken (File row) extent = host_name taken row extent
+row_name taken (File row) extent = host_name_of_row taken row extent
 row_name taken (Deleted row) extent = next_name taken (spelling (name_in row.field)) endings.Deleted (is_part extent)
 row_name taken (Orphan row) extent = next_name taken (orphan_stem row.first row.old) endings.Orphan (is_part extent)
 

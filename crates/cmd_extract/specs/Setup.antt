@@ -5,7 +5,7 @@ use Rattle.cmd_files.specs.declared.form.Form.{Form}
 
 -- the options: the folder below which all is written, whether parts are written too, whether
 -- complete images are skipped, and the form of the output
-pub record SetupView : Type 0 where
+pub record ExtractSetupView : Type 0 where
   pub into : List ℕ
   pub with_parts : Bool
   pub skips : Bool
@@ -14,7 +14,7 @@ pub record SetupView : Type 0 where
 -- an image that is unpacked: the options, the name of its file on the host, the dump that was read
 -- of it, and the paths of its folder once it is complete, and before
 pub record TaskView : Type 0 where
-  pub setup : SetupView
+  pub setup : ExtractSetupView
   pub name : List ℕ
   pub dump : DumpView
   pub done : List ℕ

@@ -3,7 +3,7 @@ use Rattle.std.specs.Prelude.{ℕ, Bool, true, false, nat_lt, if◌then◌else�
 use Rattle.std.specs.Str.{is_utf8}
 use Rattle.d64_image.specs.Disk.{Bytes}
 use Rattle.d64_survey.specs.Dump.{DumpView}
-use Rattle.d64_leftovers.specs.Rows.{rows}
+use Rattle.d64_leftovers.specs.Rows.{wanted_rows}
 use Rattle.d64_leftovers.specs.declared.row.Row.{Row}
 use Rattle.d64_inventory.specs.ListingAmiss.{is_listing_amiss}
 use Rattle.cmd_extract_contents.specs.Portions.{Portion}
@@ -19,24 +19,24 @@ use Rattle.program_batch.specs.declared.reason.Reason.{Reason}
 use Rattle.program_batch.specs.declared.report.Verdict.{Verdict}
 use Rattle.program_batch.specs.declared.report.Verdict.TheVariants.{Clean, Amiss, Failed}
 use Rattle.host_names.specs.ImagePlace.{folders_of}
-use Rattle.cmd_extract.specs.Setup.{SetupView, TaskView}
+use Rattle.cmd_extract.specs.Setup.{ExtractSetupView, TaskView}
 use Rattle.cmd_extract.specs.Paths.{path_inside, with_slash, done_path, partial_path, path_in, list_in, list_path}
 use Rattle.cmd_extract.specs.Work.{Work, Done, Then, Why, Look, Folder, NewFolder, NewFile, MoreOfFile, Rename}
-use Rattle.cmd_extract.specs.Progress.{Progress, waiting_limit, first_progress, portion_of, row_name, reported_progress, spent_progress, named_progress, written_progress, unwritten_progress, put_progress, unput_progress, dropped_progress}
+use Rattle.cmd_extract.specs.Progress.{Progress, waiting_limit, progress_before_files, portion_of, row_name, reported_progress, spent_progress, named_progress, written_progress, unwritten_progress, put_progress, unput_progress, dropped_progress}
 use Rattle.cmd_extract.specs.declared.list_state.ListState.{ListState}
 use Rattle.cmd_extract.specs.declared.list_state.ListState.TheVariants.{New, Begun, GivenUp}
 
 -- the result of an image that is refused: its error is printed, and this goes to the standard error
-abbrev pub refused_answer : SetupView → List ℕ → List ℕ → List ℕ → Answer
+abbrev pub refused_answer : ExtractSetupView → List ℕ → List ℕ → List ℕ → Answer
 refused_answer setup name error complaint = record { printed = printed_error setup.form name error; complaint = complaint; verdict = Failed }
 
 -- the result of a file that cannot be read
-abbrev pub unread_answer : SetupView → List ℕ → Answer
+abbrev pub unread_answer : ExtractSetupView → List ℕ → Answer
 unread_answer setup name = refused_answer setup name (codes "cannot be read") (unread_line name)
 
 -- the result of a file that is not a dump
-abbrev pub wrong_length : SetupView → List ℕ → Bytes → Answer
-wrong_length setup name bytes =
+abbrev pub wrong_length_answer : ExtractSetupView → List ℕ → Bytes → Answer
+wrong_length_answer setup name bytes =
     record { printed = printed_length setup.form name bytes; complaint = wrong_length_line name bytes; verdict = Failed }
 
 -- the result of an image whose folder, or its unfinished form, exists already at this path
@@ -129,9 +129,9 @@ file_work task row progress (Some portion) rest =
 -- the files of rows are written, one after another, and their lines in the list of the files
 unfoldable pub files_work : TaskView → List Row → Progress → Work
 files_work task [] progress = list_work task (closed_progress task progress)
-files_work task (row ∷ rows) progress =
+files_work task (row ∷ wanted_rows) progress =
     file_work task row (spent_progress task row progress) (portion_within progress.left (portion_of task row))
-    (λ after. wait_work task after (files_work task rows))
+    (λ after. wait_work task after (files_work task wanted_rows))
 
 -- a folder cannot be made at this path: the host gives the reason, and the error names the chosen
 -- folder instead if that does not exist
@@ -142,7 +142,7 @@ unmade_work task path =
 -- the image's folder is made, and then its files
 unfoldable pub folder_work : TaskView → Work
 folder_work task =
-    Then (NewFolder task.partial) (λ is_made. if is_made then files_work task (rows (files_and task.setup.form.leftovers) task.dump) (first_progress task) else unmade_work task task.partial)
+    Then (NewFolder task.partial) (λ is_made. if is_made then files_work task (wanted_rows (files_and task.setup.form.leftovers) task.dump) (progress_before_files task) else unmade_work task task.partial)
 
 -- folders are made unless they exist, each in the one before it; then comes the rest, which gets
 -- the path of a folder that cannot be made
@@ -176,17 +176,17 @@ abbrev pub task_work : TaskView → Work
 task_work task = task_work_with task (folders_of task.name)
 
 -- the image of a dump, with these options
-abbrev pub task_of : SetupView → List ℕ → DumpView → TaskView
+abbrev pub task_of : ExtractSetupView → List ℕ → DumpView → TaskView
 task_of setup name dump =
     record { setup = setup; name = name; dump = dump; done = done_path setup.into name; partial = partial_path setup.into name }
 
 -- what is done with bytes: a dump is unpacked, and for other bytes the wrong length is reported
-abbrev pub dump_work : SetupView → List ℕ → Bytes → Option DumpView → Work
-dump_work setup name bytes None = Done (wrong_length setup name bytes)
+abbrev pub dump_work : ExtractSetupView → List ℕ → Bytes → Option DumpView → Work
+dump_work setup name bytes None = Done (wrong_length_answer setup name bytes)
 dump_work setup name bytes (Some dump) = task_work (task_of setup name dump)
 
 -- what is done with a file: with its bytes, or if it cannot be read. A name that is not UTF-8 is no
 -- file's
-unfoldable pub unpacking : SetupView → List ℕ → Option Bytes → Work
+unfoldable pub unpacking : ExtractSetupView → List ℕ → Option Bytes → Work
 unpacking setup name None = Done (unread_answer setup name)
 unpacking setup name (Some bytes) = if is_utf8 name then dump_work setup name bytes (dump_of bytes) else Done (unread_answer setup name)

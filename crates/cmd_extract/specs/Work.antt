@@ -3,7 +3,7 @@ use Rattle.std.specs.Prelude.{◌≡◌, ◌⊎◌, ℕ, Bool, true, false, List
 use Rattle.std.specs.FinMap.{contains_key}
 use Rattle.std.specs.Str.{is_utf8}
 use Rattle.host_storage.specs.Files.{Files, HostState}
-use Rattle.host_storage.specs.Folders.{folder_name, with_folder, with_file, with_moved, Looks, Makes, Extends, CountsMaking}
+use Rattle.host_storage.specs.Folders.{folder_name, with_folder, with_stored_file, with_moved, Looks, Makes, Extends, CountsMaking}
 use Rattle.host_storage.specs.declared.host.FolderFault.{FolderFault}
 use Rattle.host_storage.specs.declared.host.FolderFault.TheVariants.{Exists, Device}
 use Rattle.program_batch.specs.Answers.{Answer}
@@ -52,7 +52,7 @@ is_had (Err Device) = false
 -- what the call for a new file returns, by whether its path is UTF-8: if not, no file is made
 abbrev pub SaysFile : Bool → List ℕ → List ℕ → HostState → Bool → HostState → Type 0
 SaysFile true path bytes old said new =
-    (answer : Result (Unit {0}) FolderFault) × IsTried (with_file path bytes) old path answer new × (said ≡ is_ok answer)
+    (answer : Result (Unit {0}) FolderFault) × IsTried (with_stored_file path bytes) old path answer new × (said ≡ is_ok answer)
 SaysFile false path bytes old said new = (said ≡ false) × (new ≡ old)
 
 -- what the call that appends to such a file returns
@@ -63,43 +63,43 @@ SaysMore true path bytes old said new =
 SaysMore false path bytes old said new = (said ≡ false) × (new ≡ old)
 
 -- what a call may return, and the state of the host then
-abbrev pub Says : HostCall → HostState → Bool → HostState → Type 0
-Says (Look path) old said new = Looks old.files path said × (new ≡ old)
-Says (Folder path) old said new =
+abbrev pub CallReturns : HostCall → HostState → Bool → HostState → Type 0
+CallReturns (Look path) old said new = Looks old.files path said × (new ≡ old)
+CallReturns (Folder path) old said new =
     (answer : Result (Unit {0}) FolderFault) × IsTried (with_folder path) old path answer new × (said ≡ is_had answer)
-Says (NewFolder path) old said new =
+CallReturns (NewFolder path) old said new =
     (answer : Result (Unit {0}) FolderFault) × IsTried (with_folder path) old path answer new × (said ≡ is_ok answer)
-Says (NewFile path bytes) old said new = SaysFile (is_utf8 path) path bytes old said new
-Says (MoreOfFile path bytes) old said new = SaysMore (is_utf8 path) path bytes old said new
-Says (Rename from to) old said new =
+CallReturns (NewFile path bytes) old said new = SaysFile (is_utf8 path) path bytes old said new
+CallReturns (MoreOfFile path bytes) old said new = SaysMore (is_utf8 path) path bytes old said new
+CallReturns (Rename from to) old said new =
     (answer : Result (Unit {0}) FolderFault) × IsTried (with_moved from to) old to answer new × WasFolder old from answer × (said ≡ is_ok answer)
 
 -- work is done, from one state of the host to another, with a result, or None if memory ran out:
 -- that may happen before each call, and before the result
-unfoldable pub Does : Work → HostState → Option Answer → HostState → Type 0
-Does (Done answer) old given new = (new ≡ old) × ((given ≡ Some answer) ⊎ (given ≡ None))
-Does (Then call next) old given new =
-    ((said : Bool) × (middle : HostState) × Says call old said middle × Does (next said) middle given new)
+unfoldable pub DoesWork : Work → HostState → Option Answer → HostState → Type 0
+DoesWork (Done answer) old given new = (new ≡ old) × ((given ≡ Some answer) ⊎ (given ≡ None))
+DoesWork (Then call next) old given new =
+    ((said : Bool) × (middle : HostState) × CallReturns call old said middle × DoesWork (next said) middle given new)
     ⊎ ((new ≡ old) × (given ≡ None))
-Does (Why next) old given new =
-    ((reason : Option Reason) × IsWriteReason old.files reason × Does (next reason) old given new)
+DoesWork (Why next) old given new =
+    ((reason : Option Reason) × IsWriteReason old.files reason × DoesWork (next reason) old given new)
     ⊎ ((new ≡ old) × (given ≡ None))
 
 -- the beginning of one piece of work leads to another piece: whatever that one does from here, the
 -- first one may do
 abbrev pub LeadsTo : Work → HostState → Work → HostState → Type 0
-LeadsTo work old rest now = (given : Option Answer) (new : HostState) → Does rest now given new → Does work old given new
+LeadsTo work old rest now = (given : Option Answer) (new : HostState) → DoesWork rest now given new → DoesWork work old given new
 
 -- how a part of the work ends: with the rest to be done, or as memory ran out
 abbrev pub Comes : {A E : Type 0} → Result A E → Work → HostState → Work → HostState → Type 0
 Comes (Ok done) work old rest now = LeadsTo work old rest now
-Comes (Err fault) work old rest now = Does work old None now
+Comes (Err fault) work old rest now = DoesWork work old None now
 
 -- the result in the buffer, with this verdict
 abbrev pub answer_in : ReportBuffer → Verdict → Answer
 answer_in buffer verdict = record { printed = buffer.printed.items; complaint = buffer.complaint.items; verdict = verdict }
 
 -- how work ends: with the result in the buffer, or as memory ran out
-abbrev pub Ends : {E : Type 0} → Result Verdict E → ReportBuffer → Work → HostState → HostState → Type 0
-Ends (Ok verdict) buffer work old new = Does work old (Some (answer_in buffer verdict)) new
-Ends (Err fault) buffer work old new = Does work old None new
+abbrev pub EndsWork : {E : Type 0} → Result Verdict E → ReportBuffer → Work → HostState → HostState → Type 0
+EndsWork (Ok verdict) buffer work old new = DoesWork work old (Some (answer_in buffer verdict)) new
+EndsWork (Err fault) buffer work old new = DoesWork work old None new

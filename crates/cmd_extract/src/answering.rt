@@ -3,9 +3,9 @@ ghost use Rattle.std.specs.Prelude.{◌≡◌, ◌++◌, [], IfOk, OnOk, is_some
 ghost use Rattle.out_messages.specs.FaultLines.{unwritten_line};
 ghost use Rattle.d64_inventory.specs.ListingAmiss.{is_listing_amiss};
 ghost use Rattle.cmd_extract.specs.Work.{answer_in};
-ghost use Rattle.cmd_extract.specs.FilesNow.{progress_of};
+ghost use Rattle.cmd_extract.specs.FilesNow.{progress_of_files};
 ghost use Rattle.program_batch.specs.Reasons.{with_known_reason};
-ghost use Rattle.cmd_extract.specs.Unpacking.{refused_answer, unread_answer, wrong_length, present_answer, skipped_answer, unmade_answer, unnamed_answer, unfinished_answer, finished_answer};
+ghost use Rattle.cmd_extract.specs.Unpacking.{refused_answer, unread_answer, wrong_length_answer, present_answer, skipped_answer, unmade_answer, unnamed_answer, unfinished_answer, finished_answer};
 
 use crate::files::Files;
 use crate::setup::{Setup, Task};
@@ -65,7 +65,7 @@ pub(crate) fn report_wrong_length(
     bytes: &[u8],
     buffer: &mut ReportBuffer,
 ) -> Result<Verdict, AllocError>
-    ensures { IfOk result (λ verdict. answer_in buffer.new verdict ≡ wrong_length setup.now name.now bytes.now) }
+    ensures { IfOk result (λ verdict. answer_in buffer.new verdict ≡ wrong_length_answer setup.now name.now bytes.now) }
 {
     buffer.complaint.clear();
     wrong_length_line(&mut buffer.complaint, name, bytes)?;
@@ -132,7 +132,7 @@ pub(crate) fn report_unnamed(
     files: &mut Files,
     buffer: &mut ReportBuffer,
 ) -> Result<Verdict, AllocError>
-    ensures { IfOk result (λ verdict. answer_in buffer.new verdict ≡ unnamed_answer task.now (progress_of files.old) reason) }
+    ensures { IfOk result (λ verdict. answer_in buffer.new verdict ≡ unnamed_answer task.now (progress_of_files files.old) reason) }
 {
     add_unwritten(&mut files.reported.complaint, task.done.as_bytes(), reason)?;
     mem::swap(&mut buffer.complaint, &mut files.reported.complaint);
@@ -170,7 +170,7 @@ fn verdict_on(task: &Task, extraction: &ContentExtraction) -> Verdict
 
 /// Puts the result of an image whose folder has its name into the buffer.
 pub(crate) fn report_finished(task: &Task, files: &mut Files, buffer: &mut ReportBuffer) -> Verdict
-    ensures { answer_in buffer.new result ≡ finished_answer task.now (progress_of files.old) }
+    ensures { answer_in buffer.new result ≡ finished_answer task.now (progress_of_files files.old) }
 {
     let verdict = verdict_on(task, &files.extraction);
     report_files(files, buffer);
@@ -179,7 +179,7 @@ pub(crate) fn report_finished(task: &Task, files: &mut Files, buffer: &mut Repor
 
 /// Puts the result of an image whose folder keeps its name, since a write failed, into the buffer.
 pub(crate) fn report_unfinished(files: &mut Files, buffer: &mut ReportBuffer) -> Verdict
-    ensures { answer_in buffer.new result ≡ unfinished_answer (progress_of files.old) }
+    ensures { answer_in buffer.new result ≡ unfinished_answer (progress_of_files files.old) }
 {
     report_files(files, buffer);
     Verdict::Failed

@@ -1,21 +1,21 @@
 //! The calls that are made of the host.
 ghost use Rattle.std.specs.Prelude.{◌≡◌};
 ghost use Rattle.program_batch.specs.Reasons.{IsWriteReason};
-ghost use Rattle.cmd_extract.specs.Work.{Says, Look, Folder, NewFolder, NewFile, MoreOfFile, Rename};
+ghost use Rattle.cmd_extract.specs.Work.{CallReturns, Look, Folder, NewFolder, NewFile, MoreOfFile, Rename};
 
 use host_storage::{FolderFault, Host};
 use program_batch::{Reason, reason_unwritten};
 
 /// Whether a path exists.
 pub(crate) fn is_there<H: Host>(host: &H, path: &str) -> bool
-    ensures { Says (Look path.now) (H.state host.now) result (H.state host.now) }
+    ensures { CallReturns (Look path.now) (H.state host.now) result (H.state host.now) }
 {
     host.is_there(path)
 }
 
 /// Makes a folder unless it exists, and returns whether it does then.
 pub(crate) fn have_folder<H: Host>(host: &mut H, path: &str) -> bool
-    ensures { Says (Folder path.now) (H.state host.old) result (H.state host.new) }
+    ensures { CallReturns (Folder path.now) (H.state host.old) result (H.state host.new) }
 {
     match host.make_folder(path) {
         Ok(()) => true,
@@ -26,14 +26,14 @@ pub(crate) fn have_folder<H: Host>(host: &mut H, path: &str) -> bool
 
 /// Makes a new folder, and returns whether it could be made.
 pub(crate) fn make_folder<H: Host>(host: &mut H, path: &str) -> bool
-    ensures { Says (NewFolder path.now) (H.state host.old) result (H.state host.new) }
+    ensures { CallReturns (NewFolder path.now) (H.state host.old) result (H.state host.new) }
 {
     host.make_folder(path).is_ok()
 }
 
 /// Makes a new file, with these bytes, and returns whether it could be made.
 pub(crate) fn make_file<H: Host>(host: &mut H, path: &[u8], bytes: &[u8]) -> bool
-    ensures { Says (NewFile path.now bytes.now) (H.state host.old) result (H.state host.new) }
+    ensures { CallReturns (NewFile path.now bytes.now) (H.state host.old) result (H.state host.new) }
 {
     match str::from_utf8(path) {
         Ok(path) => host.make_file(path, bytes).is_ok(),
@@ -43,7 +43,7 @@ pub(crate) fn make_file<H: Host>(host: &mut H, path: &[u8], bytes: &[u8]) -> boo
 
 /// Appends these bytes to a file, and returns whether they could be appended.
 pub(crate) fn extend_file<H: Host>(host: &mut H, path: &[u8], bytes: &[u8]) -> bool
-    ensures { Says (MoreOfFile path.now bytes.now) (H.state host.old) result (H.state host.new) }
+    ensures { CallReturns (MoreOfFile path.now bytes.now) (H.state host.old) result (H.state host.new) }
 {
     match str::from_utf8(path) {
         Ok(path) => host.extend_file(path, bytes).is_ok(),
@@ -64,7 +64,7 @@ pub(crate) fn reason_at<H: Host>(host: &H, path: &[u8]) -> Option<Reason>
 
 /// Gives a folder another path, and returns whether it has that then.
 pub(crate) fn rename<H: Host>(host: &mut H, from: &str, to: &str) -> bool
-    ensures { Says (Rename from.now to.now) (H.state host.old) result (H.state host.new) }
+    ensures { CallReturns (Rename from.now to.now) (H.state host.old) result (H.state host.new) }
 {
     host.rename_folder(from, to).is_ok()
 }

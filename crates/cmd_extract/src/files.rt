@@ -1,15 +1,15 @@
 //! The files of an image, one after another.
 ghost use Rattle.std.specs.Prelude.{◌≡◌, ◌∷◌, [], ◌++◌, ℕ, List, Option, Some, None, OnOk, if◌then◌else◌};
 ghost use Rattle.petscii.specs.Spelling.{spelling};
-ghost use Rattle.d64_leftovers.specs.Rows.{rows};
+ghost use Rattle.d64_leftovers.specs.Rows.{wanted_rows};
 ghost use Rattle.cmd_files.specs.Selections.{files_and};
 ghost use Rattle.cmd_extract_contents.specs.Limits.{portion_within};
 ghost use Rattle.cmd_extract.specs.Work.{Work, Comes};
 ghost use Rattle.d64_files.specs.Name.{name_in};
 ghost use Rattle.host_names.specs.TakenNames.{next_name};
 ghost use Rattle.host_names.specs.declared.ending.Ending.TheVariants.{Orphan as orphan_ending};
-ghost use Rattle.cmd_extract.specs.Progress.{Progress, is_part, waiting_limit, first_progress, portion_of, orphan_stem, row_name, spent_progress, written_progress, unwritten_progress, put_progress};
-ghost use Rattle.cmd_extract.specs.FilesNow.{progress_of};
+ghost use Rattle.cmd_extract.specs.Progress.{Progress, is_part, waiting_limit, progress_before_files, portion_of, orphan_stem, row_name, spent_progress, written_progress, unwritten_progress, put_progress};
+ghost use Rattle.cmd_extract.specs.FilesNow.{progress_of_files};
 ghost use Rattle.cmd_extract.specs.Setup.{TaskView};
 ghost use Rattle.cmd_extract.specs.Paths.{list_path};
 ghost use Rattle.cmd_extract.specs.Unpacking.{after_putting, write_work, file_work, files_work, wait_work, put_work, closed_progress};
@@ -109,7 +109,7 @@ fn take_orphan_name(
 }
 
 /// Names the host file of the file of a row. The name is taken from then on.
-#[tactic(auto, unfolding(crate::specs::Progress::row_name, crate::specs::Progress::host_name))]
+#[tactic(auto, unfolding(crate::specs::Progress::row_name, crate::specs::Progress::host_name_of_row))]
 fn name_file(
     taken: &mut TakenNames,
     text: &mut Vec<u8>,
@@ -143,7 +143,7 @@ impl Files {
 
     /// Begins with the files of an image, and forgets those before.
     fn begin(&mut self, task: &Task) -> Result<(), AllocError>
-        ensures { OnOk result (progress_of self.new ≡ first_progress task.now) }
+        ensures { OnOk result (progress_of_files self.new ≡ progress_before_files task.now) }
     {
         self.extraction = ContentExtraction::new();
         self.taken.clear();
@@ -152,7 +152,7 @@ impl Files {
 
     /// Adds the line of a file that was written under its host name.
     fn report_written(&mut self, task: &Task, row: &Row) -> Result<(), AllocError>
-        ensures { OnOk result (progress_of self.new ≡ written_progress task.now row.now self.old.name.items (progress_of self.old)) }
+        ensures { OnOk result (progress_of_files self.new ≡ written_progress task.now row.now self.old.name.items (progress_of_files self.old)) }
     {
         put_path(&mut self.path, &task.done, &self.name)?;
         self.reported.report(task, row, Some(&self.path))
@@ -166,7 +166,7 @@ impl Files {
         row: &Row,
         reason: Option<Reason>,
     ) -> Result<(), AllocError>
-        ensures { OnOk result (progress_of self.new ≡ unwritten_progress task.now row.now self.old.name.items reason (progress_of self.old)) }
+        ensures { OnOk result (progress_of_files self.new ≡ unwritten_progress task.now row.now self.old.name.items reason (progress_of_files self.old)) }
     {
         put_path(&mut self.path, &task.partial, &self.name)?;
         self.reported.report_failure(&self.path, reason)?;
@@ -181,8 +181,8 @@ impl Files {
         host: &mut H,
     ) -> Result<(), AllocError>
         ensures { (rest : Progress → Work) → Comes result
-            (write_work task.now row.now self.old.name.items self.old.bytes.items (progress_of self.old) rest) (H.state host.old)
-            (rest (progress_of self.new)) (H.state host.new) }
+            (write_work task.now row.now self.old.name.items self.old.bytes.items (progress_of_files self.old) rest) (H.state host.old)
+            (rest (progress_of_files self.new)) (H.state host.new) }
     {
         put_path(&mut self.path, &task.partial, &self.name)?;
         if make_file(host, &self.path, &self.bytes) {
@@ -201,8 +201,8 @@ impl Files {
         host: &mut H,
     ) -> Result<(), AllocError>
         ensures { (rest : Progress → Work) → Comes result
-            (file_work task.now row.now (spent_progress task.now row.now (progress_of self.old)) (portion_within self.old.extraction (portion_of task.now row.now)) rest) (H.state host.old)
-            (rest (progress_of self.new)) (H.state host.new) }
+            (file_work task.now row.now (spent_progress task.now row.now (progress_of_files self.old)) (portion_within self.old.extraction (portion_of task.now row.now)) rest) (H.state host.old)
+            (rest (progress_of_files self.new)) (H.state host.new) }
     {
         let setup = task.setup;
         let with_parts = setup.with_parts;
@@ -221,8 +221,8 @@ impl Files {
     /// Ends a piece of the list that was to be written at the path, and was or was not.
     fn end_piece<H: Host>(&mut self, is_put: bool, host: &H) -> Result<(), AllocError>
         ensures { (task : TaskView) (rest : Progress → Work) → self.old.path.items ≡ list_path task → Comes result
-            (after_putting task (progress_of self.old) rest is_put) (H.state host.now)
-            (rest (progress_of self.new)) (H.state host.now) }
+            (after_putting task (progress_of_files self.old) rest is_put) (H.state host.now)
+            (rest (progress_of_files self.new)) (H.state host.now) }
     {
         self.reported.lines.clear();
         if is_put {
@@ -237,8 +237,8 @@ impl Files {
     /// Writes the lines that wait to the list of the files, which is made with the first of them.
     pub(crate) fn put_lines<H: Host>(&mut self, task: &Task, host: &mut H) -> Result<(), AllocError>
         ensures { (rest : Progress → Work) → Comes result
-            (put_work self.old.reported.list task.now (progress_of self.old) rest) (H.state host.old)
-            (rest (progress_of self.new)) (H.state host.new) }
+            (put_work self.old.reported.list task.now (progress_of_files self.old) rest) (H.state host.old)
+            (rest (progress_of_files self.new)) (H.state host.new) }
     {
         put_path(&mut self.path, &task.partial, LIST_NAME)?;
         match self.reported.list {
@@ -260,8 +260,8 @@ impl Files {
     /// Writes the lines that wait to the list, once they pass the limit.
     fn put_long_lines<H: Host>(&mut self, task: &Task, host: &mut H) -> Result<(), AllocError>
         ensures { (rest : Progress → Work) → Comes result
-            (wait_work task.now (progress_of self.old) rest) (H.state host.old)
-            (rest (progress_of self.new)) (H.state host.new) }
+            (wait_work task.now (progress_of_files self.old) rest) (H.state host.old)
+            (rest (progress_of_files self.new)) (H.state host.new) }
     {
         if self.reported.lines.len() > WAITING_BYTES {
             return self.put_lines(task, host);
@@ -277,8 +277,8 @@ impl Files {
         host: &mut H,
     ) -> Result<(), AllocError>
         ensures { (rest : Progress → Work) → Comes result
-            (file_work task.now row.now (spent_progress task.now row.now (progress_of self.old)) (portion_within self.old.extraction (portion_of task.now row.now)) (λ after. wait_work task.now after rest)) (H.state host.old)
-            (rest (progress_of self.new)) (H.state host.new) }
+            (file_work task.now row.now (spent_progress task.now row.now (progress_of_files self.old)) (portion_within self.old.extraction (portion_of task.now row.now)) (λ after. wait_work task.now after rest)) (H.state host.old)
+            (rest (progress_of_files self.new)) (H.state host.new) }
     {
         self.unpack_file(task, row, host)?;
         self.put_long_lines(task, host)
@@ -291,8 +291,8 @@ impl Files {
         host: &mut H,
     ) -> Result<(), AllocError>
         ensures { Comes result
-            (files_work task.now (rows (files_and task.now.setup.form.leftovers) task.now.dump) (first_progress task.now)) (H.state host.old)
-            (files_work task.now [] (progress_of self.new)) (H.state host.new) }
+            (files_work task.now (wanted_rows (files_and task.now.setup.form.leftovers) task.now.dump) (progress_before_files task.now)) (H.state host.old)
+            (files_work task.now [] (progress_of_files self.new)) (H.state host.new) }
     {
         self.begin(task)?;
         let setup = task.setup;
@@ -304,7 +304,7 @@ impl Files {
 
     /// Ends the files of an image: prints what comes after them, and reports too many bytes.
     pub(crate) fn close(&mut self, task: &Task) -> Result<(), AllocError>
-        ensures { OnOk result (progress_of self.new ≡ closed_progress task.now (progress_of self.old)) }
+        ensures { OnOk result (progress_of_files self.new ≡ closed_progress task.now (progress_of_files self.old)) }
     {
         let setup = task.setup;
         print_after(setup.form.format, task.all, &mut self.reported.printed)?;

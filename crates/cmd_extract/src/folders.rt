@@ -1,6 +1,6 @@
 //! The folders in which the folder of an image lies.
 ghost use Rattle.std.specs.Prelude.{List, ℕ, Option, map, option_map, string_bytes, MatchResult, None};
-ghost use Rattle.cmd_extract.specs.Work.{Work, LeadsTo, Does};
+ghost use Rattle.cmd_extract.specs.Work.{Work, LeadsTo, DoesWork};
 ghost use Rattle.cmd_extract.specs.Unpacking.{folders_work};
 
 use crate::calls::have_folder;
@@ -16,7 +16,7 @@ pub(crate) fn have_folders<H: Host>(
 ) -> Result<Option<String>, AllocError>
     ensures { (rest : Option (List ℕ) → Work) → MatchResult result
         (λ unmade. LeadsTo (folders_work rest (string_bytes start) (map (λ folder. folder.now) folders.now)) (H.state host.old) (rest (option_map string_bytes unmade)) (H.state host.new))
-        (λ _. Does (folders_work rest (string_bytes start) (map (λ folder. folder.now) folders.now)) (H.state host.old) None (H.state host.new)) }
+        (λ _. DoesWork (folders_work rest (string_bytes start) (map (λ folder. folder.now) folders.now)) (H.state host.old) None (H.state host.new)) }
 {
     let mut place = start;
     for folder in folders {

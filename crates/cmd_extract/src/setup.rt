@@ -20,9 +20,9 @@ pub struct Setup {
 
 impl Model for Setup {
     ghost use Rattle.std.specs.Prelude.{string_bytes};
-    ghost use Rattle.cmd_extract.specs.Setup.{SetupView};
+    ghost use Rattle.cmd_extract.specs.Setup.{ExtractSetupView};
 
-    ghost Value = { SetupView };
+    ghost Value = { ExtractSetupView };
 
     ghost view = { λ setup. record { into = string_bytes setup.into; with_parts = setup.with_parts; skips = setup.skips; form = setup.form } };
 }

@@ -2,8 +2,8 @@
 ghost use Rattle.std.specs.Prelude.{map};
 ghost use Rattle.d64_inventory.specs.Rows.{rows};
 ghost use Rattle.cmd_extract.specs.Paths.{path_inside};
-ghost use Rattle.cmd_extract.specs.Work.{Ends};
-ghost use Rattle.cmd_extract.specs.FilesNow.{progress_of};
+ghost use Rattle.cmd_extract.specs.Work.{EndsWork};
+ghost use Rattle.cmd_extract.specs.FilesNow.{progress_of_files};
 ghost use Rattle.cmd_extract.specs.Unpacking.{name_work, unmade_work, folder_work, folders_work, folder_after, present_work, task_work_with};
 
 use crate::answering::{
@@ -27,7 +27,7 @@ impl<'a, 'd> Task<'a, 'd> {
         host: &mut H,
         buffer: &mut ReportBuffer,
     ) -> Result<Verdict, AllocError>
-        ensures { Ends result buffer.new (name_work self.now (progress_of files.old)) (H.state host.old) (H.state host.new) }
+        ensures { EndsWork result buffer.new (name_work self.now (progress_of_files files.old)) (H.state host.old) (H.state host.new) }
     {
         if files.reported.has_failed {
             return Ok(report_unfinished(files, buffer));
@@ -49,7 +49,7 @@ impl<'a, 'd> Task<'a, 'd> {
         host: &H,
         buffer: &mut ReportBuffer,
     ) -> Result<Verdict, AllocError>
-        ensures { Ends result buffer.new (unmade_work self.now path.now) (H.state host.now) (H.state host.now) }
+        ensures { EndsWork result buffer.new (unmade_work self.now path.now) (H.state host.now) (H.state host.now) }
     {
         let setup = self.setup;
         let is_into_there = is_there(host, &setup.into);
@@ -69,7 +69,7 @@ impl<'a, 'd> Task<'a, 'd> {
         host: &mut H,
         buffer: &mut ReportBuffer,
     ) -> Result<Verdict, AllocError>
-        ensures { Ends result buffer.new (folder_work self.now) (H.state host.old) (H.state host.new) }
+        ensures { EndsWork result buffer.new (folder_work self.now) (H.state host.old) (H.state host.new) }
     {
         if !make_folder(host, &self.partial) {
             return self.end_unmade(&self.partial, files, host, buffer);
@@ -88,7 +88,7 @@ impl<'a, 'd> Task<'a, 'd> {
         host: &mut H,
         buffer: &mut ReportBuffer,
     ) -> Result<Verdict, AllocError>
-        ensures { Ends result buffer.new (folders_work (folder_after self.now) (path_inside self.now.setup.into) (map (λ folder. folder.now) folders.now)) (H.state host.old) (H.state host.new) }
+        ensures { EndsWork result buffer.new (folders_work (folder_after self.now) (path_inside self.now.setup.into) (map (λ folder. folder.now) folders.now)) (H.state host.old) (H.state host.new) }
     {
         let setup = self.setup;
         let start = inside(self.alloc, &setup.into)?;
@@ -105,7 +105,7 @@ impl<'a, 'd> Task<'a, 'd> {
         host: &H,
         buffer: &mut ReportBuffer,
     ) -> Result<Verdict, AllocError>
-        ensures { Ends result buffer.new (present_work self.now) (H.state host.now) (H.state host.now) }
+        ensures { EndsWork result buffer.new (present_work self.now) (H.state host.now) (H.state host.now) }
     {
         let setup = self.setup;
         if !setup.skips {
@@ -127,7 +127,7 @@ impl<'a, 'd> Task<'a, 'd> {
         host: &mut H,
         buffer: &mut ReportBuffer,
     ) -> Result<Verdict, AllocError>
-        ensures { Ends result buffer.new (task_work_with self.now (map (λ folder. folder.now) folders.now)) (H.state host.old) (H.state host.new) }
+        ensures { EndsWork result buffer.new (task_work_with self.now (map (λ folder. folder.now) folders.now)) (H.state host.old) (H.state host.new) }
     {
         if is_there(host, &self.done) {
             return self.end_present(files, host, buffer);

@@ -1,7 +1,7 @@
 //! `Unpacker`: it makes the folder of each image of a run.
 ghost use Rattle.std.specs.Prelude.{◌≡◌, Some, option_map, string_bytes, IfOk};
 ghost use Rattle.d64_g64.specs.DumpOf.{dump_of};
-ghost use Rattle.cmd_extract.specs.Work.{Ends};
+ghost use Rattle.cmd_extract.specs.Work.{EndsWork};
 ghost use Rattle.cmd_extract.specs.Unpacking.{task_work, task_of, unpacking};
 
 use crate::answering::{report_unread, report_wrong_length};
@@ -52,7 +52,7 @@ impl Unpacker {
         buffer: &mut ReportBuffer,
     ) -> Result<Verdict, AllocError>
         ensures setup { self.new.setup ≡ self.old.setup }
-        ensures done { Ends result buffer.new (task_work (task_of self.old.setup name.now self.old.dump)) (H.state host.old) (H.state host.new) }
+        ensures done { EndsWork result buffer.new (task_work (task_of self.old.setup name.now self.old.dump)) (H.state host.old) (H.state host.new) }
     {
         let all = Inspection::of(&self.dump, &mut self.faults, &mut self.errors)?;
         let place = ImagePlace::of(self.alloc, name)?;
@@ -79,7 +79,7 @@ impl Unpacker {
         buffer: &mut ReportBuffer,
     ) -> Result<Verdict, AllocError>
         ensures setup { self.new.setup ≡ self.old.setup }
-        ensures done { Ends result buffer.new (unpacking self.old.setup name.now (option_map (λ bytes. bytes.now) bytes.entry)) (H.state host.old) (H.state host.new) }
+        ensures done { EndsWork result buffer.new (unpacking self.old.setup name.now (option_map (λ bytes. bytes.now) bytes.entry)) (H.state host.old) (H.state host.new) }
     {
         let bytes = match bytes {
             Some(bytes) => bytes,
@@ -116,11 +116,11 @@ impl Unpacker {
 }
 
 impl FileTask for Unpacker {
-    ghost use Rattle.cmd_extract.specs.Setup.{SetupView};
+    ghost use Rattle.cmd_extract.specs.Setup.{ExtractSetupView};
     ghost use Rattle.cmd_extract.specs.Effects.{unpacks};
     ghost use Rattle.cmd_files.specs.Extracts.{extract_heading};
 
-    ghost Options = { SetupView };
+    ghost Options = { ExtractSetupView };
 
     ghost options = { λ unpacker. unpacker.setup };
 

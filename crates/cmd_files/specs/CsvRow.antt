@@ -12,8 +12,8 @@ use Rattle.cmd_files.specs.DeletedRow.{deleted_fields}
 use Rattle.cmd_files.specs.OrphanRow.{orphan_fields}
 
 -- the columns before those of leftovers and the error: the keys of the object
-abbrev pub columns : List (List ℕ)
-columns =
+abbrev pub file_columns : List (List ℕ)
+file_columns =
     codes "image" ∷ codes "slot" ∷ codes "name" ∷ codes "field" ∷ codes "kind" ∷ codes "type" ∷ codes "closed" ∷ codes "locked" ∷ codes "size" ∷ codes "first" ∷ codes "record"
     ∷ codes "blocks" ∷ codes "side" ∷ codes "bytes" ∷ codes "sha256" ∷ codes "whole" ∷ codes "why" ∷ codes "conditions" ∷ codes "read_errors" ∷ []
 
@@ -52,13 +52,13 @@ unfoldable pub csv_row : Leftovers → Bytes → Row → List ℕ
 csv_row leftovers name row = row_with (row_fields name row ++ leftover_fields leftovers row) []
 
 -- the header row
-unfoldable pub header_row : Leftovers → List ℕ
-header_row leftovers = row_with (columns ++ leftover_columns leftovers) (codes "error")
+unfoldable pub file_header_row : Leftovers → List ℕ
+file_header_row leftovers = row_with (file_columns ++ leftover_columns leftovers) (codes "error")
 
 -- a name, and nothing in each other column but for those of leftovers and the error
 abbrev pub name_alone : Bytes → List (List ℕ)
 name_alone name = host_field name ∷ [] ∷ [] ∷ [] ∷ [] ∷ [] ∷ [] ∷ [] ∷ [] ∷ [] ∷ [] ∷ [] ∷ [] ∷ [] ∷ [] ∷ [] ∷ [] ∷ [] ∷ [] ∷ []
 
 -- a row with a name and an error alone
-unfoldable pub unanswered_row : Leftovers → Bytes → List ℕ → List ℕ
-unanswered_row leftovers name error = row_with (name_alone name ++ leftover_blanks leftovers) error
+unfoldable pub unanswered_file_row : Leftovers → Bytes → List ℕ → List ℕ
+unanswered_file_row leftovers name error = row_with (name_alone name ++ leftover_blanks leftovers) error

@@ -10,7 +10,7 @@ use Rattle.out_json_csv.specs.Values.{Field, object_of}
 use Rattle.out_json_csv.specs.Unanswered.{host_value}
 use Rattle.host_names.specs.Shown.{shown_name}
 use Rattle.cmd_files.specs.RowObject.{row_members, leftover_members}
-use Rattle.cmd_files.specs.CsvRow.{columns, leftover_columns, name_alone, leftover_blanks, row_fields, leftover_fields, row_with}
+use Rattle.cmd_files.specs.CsvRow.{file_columns, leftover_columns, name_alone, leftover_blanks, row_fields, leftover_fields, row_with}
 use Rattle.cmd_files.specs.RowText.{row_text}
 
 -- the member with the path of the host file; null if no file was written
@@ -40,7 +40,7 @@ extracted_line image row path = row_text image row ++ (path_text path ++ codes "
 
 -- the header row
 unfoldable pub extracted_header : Leftovers → List ℕ
-extracted_header leftovers = row_with (columns ++ (codes "file" ∷ leftover_columns leftovers)) (codes "error")
+extracted_header leftovers = row_with (file_columns ++ (codes "file" ∷ leftover_columns leftovers)) (codes "error")
 
 -- a row with only a name and an error
 unfoldable pub unextracted_row : Leftovers → Bytes → List ℕ → List ℕ

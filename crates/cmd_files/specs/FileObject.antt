@@ -11,7 +11,7 @@ use Rattle.d64_inventory.specs.Rows.{FileRowView}
 use Rattle.d64_inventory.specs.declared.row.Content.{Content}
 use Rattle.out_json_csv.specs.Values.{Field, array_of, numeral, numeral_or_null}
 use Rattle.out_json_csv.specs.Names.{name_value}
-use Rattle.out_json_csv.specs.Pairs.{pair_text}
+use Rattle.out_json_csv.specs.Pairs.{pair_field}
 use Rattle.out_messages.specs.FileText.{kind_letters}
 use Rattle.cmd_files.specs.FlawWords.{flaw_word}
 
@@ -47,7 +47,7 @@ type_members kind type closed locked =
 -- the size that the directory gives, the pair of the first block, and the length of a record
 abbrev pub entry_members : ℕ → ℕ × ℕ → Option ℕ → List Field
 entry_members size first record_length =
-    (codes "size", numeral size) ∷ (codes "first", string (pair_text first)) ∷ (codes "record", numeral_or_null record_length) ∷ []
+    (codes "size", numeral size) ∷ (codes "first", string (pair_field first)) ∷ (codes "record", numeral_or_null record_length) ∷ []
 
 -- how many blocks the data chain and the side chain have
 abbrev pub way_members : Option ℕ → Option ℕ → List Field
@@ -59,8 +59,8 @@ content_members content = (codes "bytes", bytes_value content) ∷ (codes "sha25
 
 -- whether the file is whole, why not, the conditions that it breaks, and how many of its blocks
 -- have a read error
-abbrev pub state_members : FileRowView → List Field
-state_members row =
+abbrev pub file_state_members : FileRowView → List Field
+file_state_members row =
     (codes "whole", boolean_or_null row.whole) ∷ (codes "why", array_of (map flaw_value row.why)) ∷ (codes "conditions", array_of (map numeral row.conditions))
     ∷ (codes "read_errors", numeral row.read_errors) ∷ []
 
@@ -72,4 +72,4 @@ file_members row =
     ++ (entry_members row.size row.first row.record_length
     ++ (way_members row.blocks row.side
     ++ (content_members row.content
-    ++ state_members row))))
+    ++ file_state_members row))))

@@ -9,7 +9,7 @@ use Rattle.d64_files.specs.Name.{name_in}
 use Rattle.d64_files.specs.declared.kind.Kind.{Kind}
 use Rattle.d64_inventory.specs.Rows.{FileRowView}
 use Rattle.d64_inventory.specs.declared.row.Content.{Content}
-use Rattle.out_json_csv.specs.Pairs.{pair_text}
+use Rattle.out_json_csv.specs.Pairs.{pair_field}
 use Rattle.out_json_csv.specs.Rows.{truth_text}
 use Rattle.out_messages.specs.FileText.{kind_letters}
 use Rattle.cmd_files.specs.FlawWords.{flaw_word}
@@ -41,7 +41,7 @@ type_fields kind type closed locked = option_map_or kind_letters kind [] ∷ dec
 
 -- the size that the directory gives, the pair of the first block, and the length of a record
 abbrev pub entry_fields : ℕ → ℕ × ℕ → Option ℕ → List (List ℕ)
-entry_fields size first record_length = decimal size ∷ pair_text first ∷ decimal_or_empty record_length ∷ []
+entry_fields size first record_length = decimal size ∷ pair_field first ∷ decimal_or_empty record_length ∷ []
 
 -- how many blocks the data chain and the side chain have
 abbrev pub way_fields : Option ℕ → Option ℕ → List (List ℕ)
@@ -54,8 +54,8 @@ content_fields content =
 
 -- whether the file is whole, why not, the conditions that it breaks, and how many of its blocks
 -- have a read error
-abbrev pub state_fields : FileRowView → List (List ℕ)
-state_fields row = truth_or_empty row.whole ∷ spaced_texts flaw_word row.why ∷ spaced_texts decimal row.conditions ∷ decimal row.read_errors ∷ []
+abbrev pub file_state_fields : FileRowView → List (List ℕ)
+file_state_fields row = truth_or_empty row.whole ∷ spaced_texts flaw_word row.why ∷ spaced_texts decimal row.conditions ∷ decimal row.read_errors ∷ []
 
 -- the fields of a file, without the image and the slot
 unfoldable pub file_fields : FileRowView → List (List ℕ)
@@ -65,4 +65,4 @@ file_fields row =
     ++ (entry_fields row.size row.first row.record_length
     ++ (way_fields row.blocks row.side
     ++ (content_fields row.content
-    ++ state_fields row))))
+    ++ file_state_fields row))))

@@ -64,16 +64,16 @@ abbrev pub kind_text : Option Kind → List ℕ
 kind_text kind = option_map_or kind_letters kind (codes "???")
 
 -- what a line says of a file after its name
-unfoldable pub state_text : FileRowView → List ℕ
-state_text row = kind_text row.kind ++ (codes "   " ++ (state_by row.whole row ++ locked_text row.locked))
+unfoldable pub file_state_text : FileRowView → List ℕ
+file_state_text row = kind_text row.kind ++ (codes "   " ++ (state_by row.whole row ++ locked_text row.locked))
 
 -- the text of a used slot: the size, the name, the kind, and whether the file is whole
-unfoldable pub file_text : FileRowView → List ℕ
-file_text row = right_in 5 (decimal row.size) ++ (codes " " ++ (left_in 18 (quoted_name (name_in row.field)) ++ (codes " " ++ state_text row)))
+unfoldable pub slot_text : FileRowView → List ℕ
+slot_text row = right_in 5 (decimal row.size) ++ (codes " " ++ (left_in 18 (quoted_name (name_in row.field)) ++ (codes " " ++ file_state_text row)))
 
 -- the line of a used slot
-unfoldable pub file_line : FileRowView → List ℕ
-file_line row = file_text row ++ codes "\n"
+unfoldable pub slot_line : FileRowView → List ℕ
+slot_line row = slot_text row ++ codes "\n"
 
 -- a line with this text, which says at its end that files may be missing
 abbrev pub may_be_missing : List ℕ → List ℕ

@@ -3,7 +3,7 @@ use Rattle.std.specs.Prelude.{ℕ, Bool, List, [], ◌∷◌, ◌++◌, if◌the
 use Rattle.std.specs.List.{flat_map}
 use Rattle.d64_image.specs.Disk.{Disk, Bytes}
 use Rattle.d64_survey.specs.Dump.{DumpView}
-use Rattle.d64_leftovers.specs.Rows.{rows}
+use Rattle.d64_leftovers.specs.Rows.{wanted_rows}
 use Rattle.d64_leftovers.specs.declared.row.Row.{Row}
 use Rattle.d64_leftovers.specs.declared.selection.Selection.{Selection}
 use Rattle.d64_inventory.specs.ListingAmiss.{is_listing_amiss}
@@ -14,18 +14,18 @@ use Rattle.out_json_csv.specs.Values.{line_of}
 use Rattle.out_json_csv.specs.Unanswered.{unread_object, no_dump_object, no_dump_error}
 use Rattle.program_batch.specs.Answers.{Rule}
 use Rattle.program_reports.specs.Printings.{Printing, survey_rule}
-use Rattle.cmd_files.specs.CsvRow.{csv_row, header_row, unanswered_row}
+use Rattle.cmd_files.specs.CsvRow.{csv_row, file_header_row, unanswered_file_row}
 use Rattle.cmd_files.specs.FileTable.{head_line, missing_lines}
 use Rattle.cmd_files.specs.Selections.{files_alone, deleted_alone, orphans_alone, files_and}
 use Rattle.cmd_files.specs.RowObject.{row_object}
-use Rattle.cmd_files.specs.RowText.{row_line}
+use Rattle.cmd_files.specs.RowText.{line_of_row}
 use Rattle.cmd_files.specs.declared.form.Form.{Form}
 use Rattle.cmd_files.specs.declared.printing.Section.{Section}
 use Rattle.cmd_files.specs.declared.printing.Section.TheVariants.{Deleted, Orphans}
 
 -- what is printed of a row of an image with this host name, in a format
 abbrev pub row_printed : Format → Leftovers → Bytes → Disk → Row → List ℕ
-row_printed Text leftovers name image row = row_line image row
+row_printed Text leftovers name image row = line_of_row image row
 row_printed Json leftovers name image row = line_of (row_object leftovers name row)
 row_printed Csv leftovers name image row = csv_row leftovers name row
 
@@ -47,7 +47,7 @@ after_rows Csv dump = []
 
 -- what is printed of the rows of a dump that are wanted, in their order
 unfoldable pub printed_rows : Form → Selection → Bytes → DumpView → List ℕ
-printed_rows form wanted name dump = flat_map (printed_row form name dump.image) (rows wanted dump)
+printed_rows form wanted name dump = flat_map (printed_row form name dump.image) (wanted_rows wanted dump)
 
 -- lines under a heading, which is left out if there are no lines
 abbrev pub under_heading : List ℕ → List ℕ → List ℕ
@@ -89,27 +89,27 @@ printed_of form name dump =
 abbrev pub printed_unread : Format → Leftovers → Bytes → List ℕ
 printed_unread Text leftovers name = []
 printed_unread Json leftovers name = line_of (unread_object name)
-printed_unread Csv leftovers name = unanswered_row leftovers name (codes "cannot be read")
+printed_unread Csv leftovers name = unanswered_file_row leftovers name (codes "cannot be read")
 
 -- what is printed of bytes that are not a dump
 abbrev pub printed_no_dump : Format → Leftovers → Bytes → Bytes → List ℕ
 printed_no_dump Text leftovers name bytes = []
 printed_no_dump Json leftovers name bytes = line_of (no_dump_object name bytes)
-printed_no_dump Csv leftovers name bytes = unanswered_row leftovers name (no_dump_error bytes)
+printed_no_dump Csv leftovers name bytes = unanswered_file_row leftovers name (no_dump_error bytes)
 
 -- what is printed before the first result: the header row of CSV
 abbrev pub heading_by : Format → Leftovers → List ℕ
 heading_by Text leftovers = []
 heading_by Json leftovers = []
-heading_by Csv leftovers = header_row leftovers
+heading_by Csv leftovers = file_header_row leftovers
 
-abbrev pub heading_of : Form → List ℕ
-heading_of form = heading_by form.format form.leftovers
+abbrev pub file_heading_of : Form → List ℕ
+file_heading_of form = heading_by form.format form.leftovers
 
 -- what `files` prints in a form; a dump is amiss if a file is not whole or may be missing
 abbrev pub files_printing : Form → Printing
 files_printing form = record {
-  heading = heading_of form;
+  heading = file_heading_of form;
   of_dump = λ name bytes dump. printed_of form name dump;
   of_unread = printed_unread form.format form.leftovers;
   of_no_dump = printed_no_dump form.format form.leftovers;

@@ -5,7 +5,7 @@ use Rattle.d64_image.specs.Block.{pair_at}
 use Rattle.d64_leftovers.specs.Orphans.{OrphanRowView}
 use Rattle.d64_leftovers.specs.declared.orphan_row.OldSlot.{OldSlot}
 use Rattle.out_json_csv.specs.Values.{Field, array_of, numeral, numeral_or_null}
-use Rattle.out_json_csv.specs.Pairs.{pair_text}
+use Rattle.out_json_csv.specs.Pairs.{pair_field}
 use Rattle.cmd_files.specs.FileObject.{name_members, type_members, way_members, content_members}
 
 -- the name, and the field that it is in; null if there is no old slot
@@ -21,7 +21,7 @@ old_type_members (Some old) = type_members (Some old.kind) old.type_byte old.clo
 -- the shown size, where an old slot has one, the first block, and no length of a record
 abbrev pub orphan_entry_members : OrphanRowView → List Field
 orphan_entry_members row =
-    (codes "size", numeral_or_null (option_map (λ (old : OldSlot). old.size) row.old)) ∷ (codes "first", string (pair_text (pair_at row.first))) ∷ (codes "record", null) ∷ []
+    (codes "size", numeral_or_null (option_map (λ (old : OldSlot). old.size) row.old)) ∷ (codes "first", string (pair_field (pair_at row.first))) ∷ (codes "record", null) ∷ []
 
 -- that it isn't known whether it is whole, no reasons and no conditions, and how many of its blocks
 -- have a read error

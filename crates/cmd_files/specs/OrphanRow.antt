@@ -3,7 +3,7 @@ use Rattle.std.specs.Prelude.{ℕ, List, [], ◌∷◌, ◌++◌, option_map, Op
 use Rattle.d64_image.specs.Block.{pair_at}
 use Rattle.d64_leftovers.specs.Orphans.{OrphanRowView}
 use Rattle.d64_leftovers.specs.declared.orphan_row.OldSlot.{OldSlot}
-use Rattle.out_json_csv.specs.Pairs.{pair_text}
+use Rattle.out_json_csv.specs.Pairs.{pair_field}
 use Rattle.cmd_files.specs.FileRow.{decimal_or_empty, name_fields, type_fields, way_fields, content_fields}
 
 -- the name, and the field that it is in; empty if there is no old slot
@@ -18,7 +18,7 @@ old_type_fields (Some old) = type_fields (Some old.kind) old.type_byte old.close
 
 -- the shown size, where an old slot has one, the first block, and no length of a record
 abbrev pub orphan_entry_fields : OrphanRowView → List (List ℕ)
-orphan_entry_fields row = decimal_or_empty (option_map (λ (old : OldSlot). old.size) row.old) ∷ pair_text (pair_at row.first) ∷ [] ∷ []
+orphan_entry_fields row = decimal_or_empty (option_map (λ (old : OldSlot). old.size) row.old) ∷ pair_field (pair_at row.first) ∷ [] ∷ []
 
 -- that it isn't known whether it is whole, no reasons and no conditions, and how many of its blocks
 -- have a read error

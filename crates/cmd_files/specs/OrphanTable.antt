@@ -6,7 +6,7 @@ use Rattle.d64_leftovers.specs.Orphans.{OrphanRowView}
 use Rattle.d64_leftovers.specs.declared.orphan_row.OldSlot.{OldSlot}
 use Rattle.out_messages.specs.FileText.{kind_letters}
 use Rattle.out_messages.specs.Names.{quoted_name}
-use Rattle.out_messages.specs.Words.{block_text, count_of}
+use Rattle.out_messages.specs.Words.{block_text, counted_text}
 use Rattle.cmd_files.specs.FileTable.{right_in, left_in}
 
 -- the name in an old slot, in quotes; else the first block
@@ -25,17 +25,17 @@ named_text None = []
 named_text (Some old) = codes ", named by an old directory"
 
 -- that a block has a read error
-abbrev pub error_text : ℕ → List ℕ
-error_text count = if nat_lt 0 count then codes ", has a read error" else []
+abbrev pub orphan_error_text : ℕ → List ℕ
+orphan_error_text count = if nat_lt 0 count then codes ", has a read error" else []
 
 -- how many bytes it has
-abbrev pub byte_count : OrphanRowView → ℕ
-byte_count row = unwrap_or (option_map (λ (content : Content). content.bytes) row.content) 0
+abbrev pub orphan_byte_count : OrphanRowView → ℕ
+orphan_byte_count row = unwrap_or (option_map (λ (content : Content). content.bytes) row.content) 0
 
 -- where it begins, how many bytes it has, whether an old slot names it, and whether all was read
 unfoldable pub orphan_state : OrphanRowView → List ℕ
 orphan_state row =
-    codes "from " ++ (block_text row.first ++ (codes ": " ++ (count_of (byte_count row) (codes "byte") ++ (named_text row.old ++ error_text row.read_errors))))
+    codes "from " ++ (block_text row.first ++ (codes ": " ++ (counted_text (orphan_byte_count row) (codes "byte") ++ (named_text row.old ++ orphan_error_text row.read_errors))))
 
 -- the text of an orphan on a line: how many blocks it has, the name, the kind, and that state
 unfoldable pub orphan_text : OrphanRowView → List ℕ

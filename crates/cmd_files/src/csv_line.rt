@@ -2,11 +2,11 @@
 ghost use Rattle.std.specs.Prelude.{◌≡◌, [], ◌∷◌, ◌++◌, codes, decimal, OnOk, IfOk};
 ghost use Rattle.std.specs.Option.{option_map_or};
 ghost use Rattle.out_messages.specs.FileText.{kind_letters};
-ghost use Rattle.cmd_files.specs.FileRow.{decimal_or_empty, truth_or_empty, name_fields, type_fields, entry_fields, way_fields, content_fields, state_fields, file_fields};
+ghost use Rattle.cmd_files.specs.FileRow.{decimal_or_empty, truth_or_empty, name_fields, type_fields, entry_fields, way_fields, content_fields, file_state_fields, file_fields};
 ghost use Rattle.cmd_files.specs.DeletedRow.{deleted_fields};
 ghost use Rattle.cmd_files.specs.OrphanRow.{orphan_fields};
 ghost use Rattle.out_json_csv.specs.Rows.{host_field};
-ghost use Rattle.cmd_files.specs.CsvRow.{place_fields, row_fields, leftover_texts, leftover_fields, csv_row, columns, header_row, name_alone, unanswered_row};
+ghost use Rattle.cmd_files.specs.CsvRow.{place_fields, row_fields, leftover_texts, leftover_fields, csv_row, file_columns, file_header_row, name_alone, unanswered_file_row};
 ghost use Rattle.out_json_csv.specs.Unanswered.{no_dump_error};
 
 use crate::deleted_field::push_deleted_fields;
@@ -166,7 +166,7 @@ pub(crate) fn push_content(
 /// Appends whether the file is whole, why not, the conditions that it breaks, and how many of its
 /// blocks have a read error, to a row.
 fn push_state(scratch: &mut Vec<u8>, line: &mut CsvRow, row: &FileRow) -> Result<(), AllocError>
-    ensures { OnOk result (line.new ≡ line.old ++ state_fields row.now) }
+    ensures { OnOk result (line.new ≡ line.old ++ file_state_fields row.now) }
 {
     push_answer(line, row.whole)?;
     spell_flaws(scratch, row.why.as_slice())?;
@@ -302,7 +302,7 @@ pub fn row_csv(
 
 /// Begins the header row: the columns but for those of leftovers and the error.
 pub(crate) fn begin_header(scratch: &mut Scratch) -> Result<(), AllocError>
-    ensures { OnOk result (scratch.new.row ≡ columns) }
+    ensures { OnOk result (scratch.new.row ≡ file_columns) }
 {
     scratch.row.clear();
     scratch.row.push_fields(&COLUMNS)
@@ -314,7 +314,7 @@ pub fn files_header(
     scratch: &mut Scratch,
     out: Vec<u8>,
 ) -> Result<Vec<u8>, AllocError>
-    ensures { IfOk result (λ text. text.items ≡ out.items ++ header_row leftovers) }
+    ensures { IfOk result (λ text. text.items ≡ out.items ++ file_header_row leftovers) }
 {
     begin_header(scratch)?;
     push_leftovers(leftovers, &mut scratch.row, b"deleted", b"orphan")?;
@@ -338,7 +338,7 @@ fn push_unanswered(
     error: &[u8],
     out: Vec<u8>,
 ) -> Result<Vec<u8>, AllocError>
-    ensures { IfOk result (λ text. text.items ≡ out.items ++ unanswered_row leftovers name.now error.now) }
+    ensures { IfOk result (λ text. text.items ≡ out.items ++ unanswered_file_row leftovers name.now error.now) }
 {
     begin_name_alone(scratch, name)?;
     push_leftovers(leftovers, &mut scratch.row, b"", b"")?;
@@ -352,7 +352,7 @@ pub fn unread_file_csv(
     name: &[u8],
     out: Vec<u8>,
 ) -> Result<Vec<u8>, AllocError>
-    ensures { IfOk result (λ text. text.items ≡ out.items ++ unanswered_row leftovers name.now (codes "cannot be read")) }
+    ensures { IfOk result (λ text. text.items ≡ out.items ++ unanswered_file_row leftovers name.now (codes "cannot be read")) }
 {
     push_unanswered(leftovers, scratch, name, UNREAD.as_bytes(), out)
 }
@@ -365,7 +365,7 @@ pub fn no_dump_file_csv(
     bytes: &[u8],
     out: Vec<u8>,
 ) -> Result<Vec<u8>, AllocError>
-    ensures { IfOk result (λ text. text.items ≡ out.items ++ unanswered_row leftovers name.now (no_dump_error bytes.now)) }
+    ensures { IfOk result (λ text. text.items ≡ out.items ++ unanswered_file_row leftovers name.now (no_dump_error bytes.now)) }
 {
     push_unanswered(
         leftovers,

@@ -2,7 +2,7 @@
 ghost use Rattle.std.specs.Prelude.{[], ◌∷◌, map, codes};
 ghost use Rattle.json.specs.Json.{string};
 ghost use Rattle.out_json_csv.specs.Values.{Prints, PrintsMembers, array_of, numeral, numeral_or_null};
-ghost use Rattle.cmd_files.specs.FileObject.{kind_value, boolean_or_null, bytes_value, digest_value, flaw_value, name_members, type_members, entry_members, way_members, content_members, state_members, file_members};
+ghost use Rattle.cmd_files.specs.FileObject.{kind_value, boolean_or_null, bytes_value, digest_value, flaw_value, name_members, type_members, entry_members, way_members, content_members, file_state_members, file_members};
 
 use crate::flaw_word::flaw_word;
 use d64_files::{Kind, name_in};
@@ -180,7 +180,7 @@ pub(crate) fn put_conditions(writer: &mut Writer, numbers: &[u8]) -> Result<(), 
 /// Prints whether the file is whole, why not, the conditions that it breaks, and how many of its
 /// blocks have a read error.
 fn put_state(writer: &mut Writer, row: &FileRow) -> Result<(), AllocError>
-    ensures { PrintsMembers result writer.old writer.new (state_members row.now) }
+    ensures { PrintsMembers result writer.old writer.new (file_state_members row.now) }
 {
     put_answer(writer, "whole", row.whole)?;
     put_why(writer, row.why.as_slice())?;

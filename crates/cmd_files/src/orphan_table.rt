@@ -1,7 +1,7 @@
 //! The orphans of an image in a table for people.
 ghost use Rattle.std.specs.Prelude.{◌≡◌, ◌++◌, OnOk, decimal};
 ghost use Rattle.cmd_files.specs.FileTable.{right_in, left_in};
-ghost use Rattle.cmd_files.specs.OrphanTable.{orphan_name, orphan_kind, named_text, error_text, byte_count, orphan_state, orphan_text};
+ghost use Rattle.cmd_files.specs.OrphanTable.{orphan_name, orphan_kind, named_text, orphan_error_text, orphan_byte_count, orphan_state, orphan_text};
 
 use crate::table::{NAME_COLUMNS, SIZE_COLUMNS, push_left, push_right};
 use d64_files::name_in;
@@ -57,7 +57,7 @@ fn named_text(old: Option<OldSlot>) -> &'static [u8]
 
 /// That a block has a read error.
 fn error_text(count: usize) -> &'static [u8]
-    ensures { result.now ≡ error_text count }
+    ensures { result.now ≡ orphan_error_text count }
 {
     if count > 0 {
         b", has a read error"
@@ -68,7 +68,7 @@ fn error_text(count: usize) -> &'static [u8]
 
 /// How many bytes an orphan has.
 fn byte_count(row: &OrphanRow) -> usize
-    ensures { result ≡ byte_count row.now }
+    ensures { result ≡ orphan_byte_count row.now }
 {
     match row.content {
         Some(content) => content.bytes,

@@ -1,6 +1,6 @@
 //! A row of an image as a line for people.
 ghost use Rattle.std.specs.Prelude.{◌≡◌, ◌++◌, OnOk};
-ghost use Rattle.cmd_files.specs.RowText.{row_text, row_line};
+ghost use Rattle.cmd_files.specs.RowText.{row_text, line_of_row};
 
 use crate::deleted_table::push_deleted_text;
 use crate::orphan_table::push_orphan_text;
@@ -32,7 +32,7 @@ pub(crate) fn push_row_line(
     survey: &Survey,
     row: &Row,
 ) -> Result<(), AllocError>
-    ensures { OnOk result (out.new.items ≡ out.old.items ++ row_line survey.now row.now) }
+    ensures { OnOk result (out.new.items ≡ out.old.items ++ line_of_row survey.now row.now) }
 {
     push_row_text(scratch, out, survey, row)?;
     out.extend_from_slice(b"\n")

@@ -1,7 +1,7 @@
 //! The files of an image as a table for people.
 ghost use Rattle.std.specs.Prelude.{◌≡◌, ◌≤◌, ◌++◌, decimal, OnOk};
 ghost use Rattle.out_messages.specs.Names.{quoted_name};
-ghost use Rattle.cmd_files.specs.FileTable.{spaces, right_in, left_in, head_line, blocks_there, reasons, unknown_text, state_by, locked_text, kind_text, state_text, file_text, file_line};
+ghost use Rattle.cmd_files.specs.FileTable.{spaces, right_in, left_in, head_line, blocks_there, reasons, unknown_text, state_by, locked_text, kind_text, file_state_text, slot_text, slot_line};
 
 use d64_files::{Kind, name_in};
 use d64_image::Image;
@@ -118,9 +118,9 @@ fn kind_text(kind: Option<Kind>) -> &'static str
 }
 
 /// Appends what a line says of a file after its name.
-#[tactic(auto, unfolding(crate::specs::FileTable::state_text))]
+#[tactic(auto, unfolding(crate::specs::FileTable::file_state_text))]
 fn push_state(out: &mut Vec<u8>, row: &FileRow) -> Result<(), AllocError>
-    ensures { OnOk result (out.new.items ≡ out.old.items ++ state_text row.now) }
+    ensures { OnOk result (out.new.items ≡ out.old.items ++ file_state_text row.now) }
 {
     out.extend_from_slice(kind_text(row.kind).as_bytes())?;
     out.extend_from_slice(b"   ")?;
@@ -151,13 +151,13 @@ pub(crate) fn push_name(
 
 /// Appends the text of a file: the size that the directory has, the name, the kind, whether it is
 /// whole or what is wrong with it, and whether it is locked.
-#[tactic(auto, unfolding(crate::specs::FileTable::file_text))]
+#[tactic(auto, unfolding(crate::specs::FileTable::slot_text))]
 pub(crate) fn push_file_text(
     scratch: &mut Vec<u8>,
     out: &mut Vec<u8>,
     row: &FileRow,
 ) -> Result<(), AllocError>
-    ensures { OnOk result (out.new.items ≡ out.old.items ++ file_text row.now) }
+    ensures { OnOk result (out.new.items ≡ out.old.items ++ slot_text row.now) }
 {
     push_size(out, row.size)?;
     out.extend_from_slice(b" ")?;
@@ -167,13 +167,13 @@ pub(crate) fn push_file_text(
 }
 
 /// Appends the line of a file.
-#[tactic(auto, unfolding(crate::specs::FileTable::file_line))]
+#[tactic(auto, unfolding(crate::specs::FileTable::slot_line))]
 pub fn push_file_line(
     scratch: &mut Vec<u8>,
     out: &mut Vec<u8>,
     row: &FileRow,
 ) -> Result<(), AllocError>
-    ensures { OnOk result (out.new.items ≡ out.old.items ++ file_line row.now) }
+    ensures { OnOk result (out.new.items ≡ out.old.items ++ slot_line row.now) }
 {
     push_file_text(scratch, out, row)?;
     out.extend_from_slice(b"\n")

@@ -10,7 +10,7 @@ use Rattle.d64_survey.specs.Dump.{DumpView}
 use Rattle.d64_survey.specs.Owners.{owners_of}
 use Rattle.d64_survey.specs.declared.owner.Owner.{Owner}
 use Rattle.d64_survey.specs.declared.owner.Owner.TheVariants as owners
-use Rattle.cmd_map.specs.States.{is_system, is_unreadable, by_last, state_of, state_of_owner}
+use Rattle.cmd_map.specs.States.{is_system, is_unreadable, by_last, state_of_block, state_of_owner}
 use Rattle.cmd_map.specs.declared.block_state.BlockState.{BlockState}
 use Rattle.cmd_map.specs.declared.block_state.BlockState.TheVariants.{Free, File, System, Unowned, Fault, Unreadable}
 
@@ -28,8 +28,8 @@ ruled all free unreadable =
 -- that is the state of a block
 ruled-is : (dump : DumpView) (block : ℕ) (all : List Owner) (free unreadable : Bool)
     → owners_of dump.image block ≡ all → set.contains (free_blocks dump.image) block ≡ free → is_unreadable dump block ≡ unreadable
-    → state_of dump block ≡ ruled all free unreadable
-unfolding state_of
+    → state_of_block dump block ≡ ruled all free unreadable
+unfolding state_of_block
 ruled-is dump block all free unreadable owners marked read =
     ap (λ (o : List Owner). ruled o (set.contains (free_blocks dump.image) block) (is_unreadable dump block)) owners
     ∙ ap (λ (f : Bool). ruled all f (is_unreadable dump block)) marked
@@ -64,21 +64,21 @@ more_shown (owner ∷ []) shown is some = absurd (omega (arith, ap length is))
 more_shown (owner ∷ other ∷ all) shown is some = let n : 1 < length (owner ∷ other ∷ all) = omega arith in grind (arith, nat_tests)
 
 -- a read error is shown before all else
-pub state-unreadable : (dump : DumpView) (block : ℕ) → is_unreadable dump block ≡ true → state_of dump block ≡ Unreadable
+pub state-unreadable : (dump : DumpView) (block : ℕ) → is_unreadable dump block ≡ true → state_of_block dump block ≡ Unreadable
 state-unreadable dump block read = ruled-is dump block _ _ true refl refl read
 
 -- a block without owners
 pub state-none : (dump : DumpView) (block : ℕ) (shown : List Owner) (free : Bool) → shown ≡ take 8 (owners_of dump.image block)
-    → length shown < 1 → set.contains (free_blocks dump.image) block ≡ free → is_unreadable dump block ≡ false → state_of dump block ≡ ruled [] free false
+    → length shown < 1 → set.contains (free_blocks dump.image) block ≡ free → is_unreadable dump block ≡ false → state_of_block dump block ≡ ruled [] free false
 state-none dump block shown free is few marked read = ruled-is dump block [] free false (none_shown _ shown is few) marked read
 
 -- one with a single owner
 pub state-one : (dump : DumpView) (block : ℕ) (shown : List Owner) (free : Bool) (d : Owner) → shown ≡ take 8 (owners_of dump.image block)
     → 1 ≤ length shown → length shown < 2 → set.contains (free_blocks dump.image) block ≡ free → is_unreadable dump block ≡ false
-    → state_of dump block ≡ ruled (get_or shown 0 d ∷ []) free false
+    → state_of_block dump block ≡ ruled (get_or shown 0 d ∷ []) free false
 state-one dump block shown free d is some few marked read = ruled-is dump block _ free false (one_shown _ shown d is some few) marked read
 
 -- one with more
 pub state-more : (dump : DumpView) (block : ℕ) (shown : List Owner) → shown ≡ take 8 (owners_of dump.image block)
-    → 2 ≤ length shown → is_unreadable dump block ≡ false → state_of dump block ≡ Fault
+    → 2 ≤ length shown → is_unreadable dump block ≡ false → state_of_block dump block ≡ Fault
 state-more dump block shown is some read = ruled-is dump block _ _ false refl refl read ∙ shared_wins _ _ _ (more_shown _ shown is some)

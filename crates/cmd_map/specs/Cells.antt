@@ -10,14 +10,14 @@ use Rattle.d64_survey.specs.ReadErrors.{code_of}
 use Rattle.d64_survey.specs.Owners.{owners_of}
 use Rattle.out_messages.specs.Words.{block_text}
 use Rattle.out_messages.specs.OwnerText.{block_owners}
-use Rattle.out_messages.specs.FaultText.{status_text}
+use Rattle.out_messages.specs.FaultText.{drive_status_text}
 use Rattle.cmd_map.specs.declared.block_state.BlockState.{BlockState}
 use Rattle.cmd_map.specs.declared.block_state.BlockState.TheVariants.{Free, File, System, Unowned, Fault, Unreadable}
-use Rattle.cmd_map.specs.States.{state_of}
+use Rattle.cmd_map.specs.States.{state_of_block}
 use Rattle.cmd_map.specs.declared.colour.Colour.{Colour}
 use Rattle.cmd_map.specs.Colours.{class_of, colour_of}
 use Rattle.out_markup.specs.Markup.{attribute, element, escaped_within}
-use Rattle.cmd_map.specs.Shapes.{path_from, path_of}
+use Rattle.cmd_map.specs.Shapes.{path_from, path_element}
 
 -- the x coordinate of a sector's column
 abbrev pub column_x : ℕ → ℕ
@@ -29,11 +29,11 @@ row_y track = 62 + 22 * track
 
 -- a read error with this code, and the drive's status for it, if there is one
 unfoldable pub read_text : ℕ → List ℕ
-read_text code = codes "could not be read (code " ++ (decimal code ++ (status_text (drive_status code) ++ codes "), "))
+read_text code = codes "could not be read (code " ++ (decimal code ++ (drive_status_text (drive_status code) ++ codes "), "))
 
 -- the same, if the code is a read error's
-unfoldable pub error_text : ℕ → List ℕ
-error_text code = if is_read_error code then read_text code else []
+unfoldable pub block_error_text : ℕ → List ℕ
+block_error_text code = if is_read_error code then read_text code else []
 
 -- the text before the owners of a block that has this many
 unfoldable pub claim_text : ℕ → List ℕ
@@ -51,7 +51,7 @@ unfoldable pub cell_text : DumpView → ℕ → List ℕ
 cell_text dump block =
     block_text block
     ++ (codes ": "
-    ++ (error_text (code_of dump.codes block)
+    ++ (block_error_text (code_of dump.codes block)
     ++ (mark_text (length (owners_of dump.image block)) (set.contains (free_blocks dump.image) block) ++ block_owners dump.image block)))
 
 -- the title of a block, which a browser shows under the pointer
@@ -68,9 +68,9 @@ unfoldable pub mark_at : ℕ → ℕ → BlockState → List ℕ
 mark_at x y Free = []
 mark_at x y File = []
 mark_at x y System = []
-mark_at x y Unowned = path_of (codes "dot") x y (codes "m10 10h.01")
-mark_at x y Fault = path_of (codes "bad") x y (codes "m10 3l7 13h-14zm0 5v4m0 2v.01")
-mark_at x y Unreadable = path_of (codes "bad") x y (codes "m4 4h12v12h-12zm3 3l6 6m0-6l-6 6")
+mark_at x y Unowned = path_element (codes "dot") x y (codes "m10 10h.01")
+mark_at x y Fault = path_element (codes "bad") x y (codes "m10 3l7 13h-14zm0 5v4m0 2v.01")
+mark_at x y Unreadable = path_element (codes "bad") x y (codes "m4 4h12v12h-12zm3 3l6 6m0-6l-6 6")
 
 -- the square of a block, at its sector's column and its track's row, with its title
 unfoldable pub cell_square : DumpView → ℕ → List ℕ
@@ -78,9 +78,9 @@ cell_square dump block =
     element (codes "path") (square_of (colour_of dump.image block) (column_x (pair_at block).1) (row_y (pair_at block).0)) (cell_title dump block)
 
 -- the cell of a block: its square, and the mark of its state
-unfoldable pub cell : DumpView → ℕ → List ℕ
-cell dump block = cell_square dump block ++ (mark_at (column_x (pair_at block).1) (row_y (pair_at block).0) (state_of dump block) ++ codes "\n")
+unfoldable pub block_cell : DumpView → ℕ → List ℕ
+block_cell dump block = cell_square dump block ++ (mark_at (column_x (pair_at block).1) (row_y (pair_at block).0) (state_of_block dump block) ++ codes "\n")
 
 -- the cells of all blocks
-unfoldable pub cells : DumpView → List ℕ
-cells dump = flat_map (cell dump) (range_with_len 0 (length dump.image))
+unfoldable pub block_cells : DumpView → List ℕ
+block_cells dump = flat_map (block_cell dump) (range_with_len 0 (length dump.image))

@@ -16,7 +16,7 @@ use Rattle.cmd_map.specs.declared.colour.Colour.TheVariants.{Free, Unowned, Syst
 use Rattle.cmd_map.specs.Cells.{square_of, mark_at}
 use Rattle.cmd_map.specs.Colours.{class_of, colour_of_slot}
 use Rattle.out_markup.specs.Markup.{empty_element, escaped_text, shortened_text}
-use Rattle.cmd_map.specs.Shapes.{text_at, text_of, path_of}
+use Rattle.cmd_map.specs.Shapes.{text_at, text_element, path_element}
 
 -- the colour in which a state is shown in the legend
 abbrev pub sample : BlockState → Colour
@@ -68,27 +68,27 @@ unfoldable pub row_y : ℕ → ℕ → ℕ
 row_y tracks place = if nat_lt place rows_beside then 240 + 20 * place else 98 + 22 * tracks + 20 * ((place - rows_beside) / 3)
 
 -- a file's name in text form, as far as it fits
-unfoldable pub name_at : ℕ → ℕ → List ℕ → List ℕ
-name_at x y name = text_at x y (escaped_text (shortened_text 24 (spelling name)))
+unfoldable pub legend_name_at : ℕ → ℕ → List ℕ → List ℕ
+legend_name_at x y name = text_at x y (escaped_text (shortened_text 24 (spelling name)))
 
 -- the row of a slot's file: its colour, its name, and its number of blocks
-unfoldable pub file_row : ℕ → ℕ → ℕ → List ℕ → ℕ → List ℕ
-file_row x y slot cell blocks =
-    path_of (class_of (colour_of_slot slot)) (x + 2) (y + 2) (codes "h10v10h-10z")
-    ++ (name_at (x + 22) (y + 11) (name_of cell) ++ (text_of (codes "end") (x + 226) (y + 11) (decimal blocks) ++ codes "\n"))
+unfoldable pub legend_file_row : ℕ → ℕ → ℕ → List ℕ → ℕ → List ℕ
+legend_file_row x y slot cell blocks =
+    path_element (class_of (colour_of_slot slot)) (x + 2) (y + 2) (codes "h10v10h-10z")
+    ++ (legend_name_at (x + 22) (y + 11) (name_of cell) ++ (text_element (codes "end") (x + 226) (y + 11) (decimal blocks) ++ codes "\n"))
 
 -- the files of an image: its used slots
-abbrev pub files_of : Disk → List EntryView
-files_of image = filter (λ (entry : EntryView). is_used entry.bytes) (entries image (way_slots image))
+abbrev pub used_entries : Disk → List EntryView
+used_entries image = filter (λ (entry : EntryView). is_used entry.bytes) (entries image (way_slots image))
 
 -- the row of the file at a place in the list
 unfoldable pub placed_row : Disk → ℕ × EntryView → List ℕ
 placed_row image file =
-    file_row (row_x file.0) (row_y (tracks_of (length image)) file.0) file.1.slot file.1.bytes (length (slot_blocks image file.1.bytes))
+    legend_file_row (row_x file.0) (row_y (tracks_of (length image)) file.0) file.1.slot file.1.bytes (length (slot_blocks image file.1.bytes))
 
 -- the rows of the first of the files
-unfoldable pub file_rows : Disk → List ℕ
-file_rows image = flat_map (placed_row image) (take shown_files (enumerate_from 0 (files_of image)))
+unfoldable pub legend_file_rows : Disk → List ℕ
+legend_file_rows image = flat_map (placed_row image) (take shown_files (enumerate_from 0 (used_entries image)))
 
 -- how many of this many files are not shown, if there are any
 unfoldable pub more_row : ℕ → ℕ → List ℕ
@@ -99,11 +99,11 @@ more_row tracks count =
 
 -- the heading of the files
 unfoldable pub files_head : List ℕ
-files_head = text_of (codes "start") 532 230 (escaped_text (codes "file")) ++ (text_of (codes "end") 758 230 (escaped_text (codes "blocks")) ++ codes "\n")
+files_head = text_element (codes "start") 532 230 (escaped_text (codes "file")) ++ (text_element (codes "end") 758 230 (escaped_text (codes "blocks")) ++ codes "\n")
 
 -- the legend
 unfoldable pub legend : Disk → List ℕ
-legend image = state_rows ++ (files_head ++ (file_rows image ++ more_row (tracks_of (length image)) (entry_count image)))
+legend image = state_rows ++ (files_head ++ (legend_file_rows image ++ more_row (tracks_of (length image)) (entry_count image)))
 
 -- how many rows are below the grid, for this many files
 unfoldable pub rows_below : ℕ → ℕ

@@ -6,11 +6,11 @@ use Rattle.d64_map.specs.Track.{blocks_on}
 use Rattle.d64_survey.specs.Dump.{DumpView}
 use Rattle.host_names.specs.Shown.{shown_name}
 use Rattle.out_messages.specs.CheckText.{label_text, state_text}
-use Rattle.cmd_map.specs.States.{state_of, mark}
+use Rattle.cmd_map.specs.States.{state_of_block, state_mark}
 
 -- the file's name, the disk's name and id, and its state
-unfoldable pub head_line : List ℕ → DumpView → List ℕ
-head_line name dump = shown_name name ++ (codes " " ++ (label_text dump.image ++ (codes ": " ++ (state_text dump ++ codes "\n"))))
+unfoldable pub map_head_line : List ℕ → DumpView → List ℕ
+map_head_line name dump = shown_name name ++ (codes " " ++ (label_text dump.image ++ (codes ": " ++ (state_text dump ++ codes "\n"))))
 
 -- the numbers of the sectors, above the rows: tens, and then ones
 abbrev pub column_lines : List ℕ
@@ -21,12 +21,12 @@ unfoldable pub padded_number : ℕ → List ℕ
 padded_number track = (if nat_lt track 10 then codes "   " else codes "  ") ++ decimal track
 
 -- a character for each block of a track
-unfoldable pub row : DumpView → ℕ → List ℕ
-row dump track = flat_map (λ block. mark (state_of dump block)) (blocks_on track)
+unfoldable pub track_row : DumpView → ℕ → List ℕ
+track_row dump track = flat_map (λ block. state_mark (state_of_block dump block)) (blocks_on track)
 
 -- the line of a track
 unfoldable pub track_line : DumpView → ℕ → List ℕ
-track_line dump track = padded_number track ++ (codes "  " ++ (row dump track ++ codes "\n"))
+track_line dump track = padded_number track ++ (codes "  " ++ (track_row dump track ++ codes "\n"))
 
 -- the lines of all tracks
 unfoldable pub track_lines : DumpView → List ℕ
@@ -38,4 +38,4 @@ legend_line = codes "- free   # a file   = map or directory   ? marked used, bel
 
 -- the map as text
 unfoldable pub map_text : List ℕ → DumpView → List ℕ
-map_text name dump = head_line name dump ++ (column_lines ++ (track_lines dump ++ legend_line))
+map_text name dump = map_head_line name dump ++ (column_lines ++ (track_lines dump ++ legend_line))

@@ -21,7 +21,7 @@ use Rattle.cmd_map.specs.Cells.{column_x, row_y, mark_at}
 use Rattle.cmd_map.specs.Colours.{class_of}
 use Rattle.cmd_map.specs.Legend.{legend}
 use Rattle.cmd_map.specs.Regions.{colour_of_region, is_in}
-use Rattle.cmd_map.specs.States.{state_of}
+use Rattle.cmd_map.specs.States.{state_of_block}
 use Rattle.cmd_map.specs.Svg.{title, page, front, view_box, height}
 
 -- these steps of a path from the corner of a block's cell, on a grid whose cells are one wide: as
@@ -85,7 +85,7 @@ alert_at x y states.Unreadable = mark_at x y states.Unreadable
 
 -- the mark of a block, if something is wrong with it
 unfoldable pub alert : DumpView → ℕ → List ℕ
-alert dump block = alert_at (column_x (pair_at block).1) (row_y (pair_at block).0) (state_of dump block)
+alert dump block = alert_at (column_x (pair_at block).1) (row_y (pair_at block).0) (state_of_block dump block)
 
 -- the marks of all blocks
 unfoldable pub alerts : DumpView → List ℕ

@@ -16,9 +16,9 @@ unfoldable pub text_at : ℕ → ℕ → List ℕ → List ℕ
 text_at x y content = element (codes "text") (place_at x y) content
 
 -- a line of text with a class
-unfoldable pub text_of : List ℕ → ℕ → ℕ → List ℕ → List ℕ
-text_of class x y content = element (codes "text") (attribute (codes "class") class ++ place_at x y) content
+unfoldable pub text_element : List ℕ → ℕ → ℕ → List ℕ → List ℕ
+text_element class x y content = element (codes "text") (attribute (codes "class") class ++ place_at x y) content
 
 -- a path with a class
-unfoldable pub path_of : List ℕ → ℕ → ℕ → List ℕ → List ℕ
-path_of class x y steps = empty_element (codes "path") (attribute (codes "class") class ++ path_from x y steps)
+unfoldable pub path_element : List ℕ → ℕ → ℕ → List ℕ → List ℕ
+path_element class x y steps = empty_element (codes "path") (attribute (codes "class") class ++ path_from x y steps)

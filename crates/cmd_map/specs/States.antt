@@ -36,8 +36,8 @@ by_last state [] = state
 by_last state (rule ∷ rules) = by_last (if rule.0 then rule.1 else state) rules
 
 -- the state of a block: free, unless one of these rules holds; the last one wins
-unfoldable pub state_of : DumpView → ℕ → BlockState
-state_of dump block =
+unfoldable pub state_of_block : DumpView → ℕ → BlockState
+state_of_block dump block =
     by_last Free
     ((is_owned dump.image block, File)
     ∷ (is_of_system dump.image block, System)
@@ -51,10 +51,10 @@ abbrev pub state_of_owner : Owner → BlockState
 state_of_owner owner = if is_system owner then System else File
 
 -- the character of a state
-abbrev pub mark : BlockState → List ℕ
-mark Free = codes "-"
-mark File = codes "#"
-mark System = codes "="
-mark Unowned = codes "?"
-mark Fault = codes "!"
-mark Unreadable = codes "x"
+abbrev pub state_mark : BlockState → List ℕ
+state_mark Free = codes "-"
+state_mark File = codes "#"
+state_mark System = codes "="
+state_mark Unowned = codes "?"
+state_mark Fault = codes "!"
+state_mark Unreadable = codes "x"

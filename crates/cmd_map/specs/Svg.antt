@@ -7,10 +7,10 @@ use Rattle.d64_survey.specs.Dump.{DumpView}
 use Rattle.d64_survey.specs.Inspection.{entry_count}
 use Rattle.host_names.specs.Shown.{shown_name}
 use Rattle.out_messages.specs.CheckText.{label_text, contents_text, state_text}
-use Rattle.cmd_map.specs.Cells.{column_x, row_y, cells}
+use Rattle.cmd_map.specs.Cells.{column_x, row_y, block_cells}
 use Rattle.cmd_map.specs.Legend.{shown_files, rows_below, legend}
 use Rattle.out_markup.specs.Markup.{attribute, number_attribute, element, empty_element, escaped_text, held_text, shortened_text}
-use Rattle.cmd_map.specs.Shapes.{text_at, text_of}
+use Rattle.cmd_map.specs.Shapes.{text_at, text_element}
 use Rattle.cmd_map.specs.Style.{style}
 
 -- a name of the host as it is shown, in characters that XML allows
@@ -18,12 +18,12 @@ unfoldable pub name_text : List ℕ → List ℕ
 name_text name = held_text (shown_name name)
 
 -- the file's name, what is on the disk, and its state
-unfoldable pub summary : List ℕ → DumpView → List ℕ
-summary name dump = name_text name ++ (codes ": " ++ (contents_text dump.image ++ (codes ": " ++ state_text dump)))
+unfoldable pub picture_summary : List ℕ → DumpView → List ℕ
+picture_summary name dump = name_text name ++ (codes ": " ++ (contents_text dump.image ++ (codes ": " ++ state_text dump)))
 
 -- the disk's name and id, and the summary
 unfoldable pub description : List ℕ → DumpView → List ℕ
-description name dump = label_text dump.image ++ (codes ", " ++ summary name dump)
+description name dump = label_text dump.image ++ (codes ", " ++ picture_summary name dump)
 
 -- the title
 unfoldable pub title : List ℕ → DumpView → List ℕ
@@ -47,11 +47,11 @@ page high = empty_element (codes "rect") (page_attributes high) ++ codes "\n"
 
 -- the disk's name and id, as far as they fit
 unfoldable pub label_line : Disk → List ℕ
-label_line image = text_of (codes "head") 46 30 (escaped_text (shortened_text 60 (label_text image)))
+label_line image = text_element (codes "head") 46 30 (escaped_text (shortened_text 60 (label_text image)))
 
 -- the summary, below them
 unfoldable pub summary_line : List ℕ → DumpView → List ℕ
-summary_line name dump = text_at 46 50 (escaped_text (summary name dump))
+summary_line name dump = text_at 46 50 (escaped_text (picture_summary name dump))
 
 -- the two lines above the grid
 unfoldable pub heads : List ℕ → DumpView → List ℕ
@@ -59,7 +59,7 @@ heads name dump = label_line dump.image ++ (codes "\n" ++ (summary_line name dum
 
 -- the number of a sector, above its column
 unfoldable pub column_head : ℕ → List ℕ
-column_head sector = text_of (codes "middle") (column_x sector + 10) 76 (decimal sector) ++ codes "\n"
+column_head sector = text_element (codes "middle") (column_x sector + 10) 76 (decimal sector) ++ codes "\n"
 
 -- the numbers of the sectors
 unfoldable pub column_heads : List ℕ
@@ -67,7 +67,7 @@ column_heads = flat_map column_head (range_with_len 0 21)
 
 -- the number of a track, before its row
 unfoldable pub row_head : ℕ → List ℕ
-row_head track = text_of (codes "end") 38 (row_y track + 14) (decimal track) ++ codes "\n"
+row_head track = text_element (codes "end") 38 (row_y track + 14) (decimal track) ++ codes "\n"
 
 -- the numbers of the tracks
 unfoldable pub row_heads : ℕ → List ℕ
@@ -92,12 +92,12 @@ unfoldable pub front : List ℕ → DumpView → List ℕ
 front name dump = heads name dump ++ (column_heads ++ row_heads (tracks_of (length dump.image)))
 
 -- the whole content of the picture
-unfoldable pub content : List ℕ → DumpView → ℕ → List ℕ
-content name dump high = top name dump high ++ (front name dump ++ (cells dump ++ legend dump.image))
+unfoldable pub picture_content : List ℕ → DumpView → ℕ → List ℕ
+picture_content name dump high = top name dump high ++ (front name dump ++ (block_cells dump ++ legend dump.image))
 
 -- the picture of a dump, with this height
 unfoldable pub picture : List ℕ → DumpView → ℕ → List ℕ
-picture name dump high = element (codes "svg") (picture_attributes high) (content name dump high) ++ codes "\n"
+picture name dump high = element (codes "svg") (picture_attributes high) (picture_content name dump high) ++ codes "\n"
 
 -- the picture of a dump
 unfoldable pub svg_of : List ℕ → DumpView → List ℕ

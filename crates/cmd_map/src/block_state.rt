@@ -2,7 +2,7 @@
 ghost use Rattle.std.specs.Prelude.{◌≡◌};
 ghost use Rattle.std.specs.FinSet as set;
 ghost use Rattle.d64_map.specs.Map.{free_blocks};
-ghost use Rattle.cmd_map.specs.States.{is_unreadable, state_of, state_of_owner, mark};
+ghost use Rattle.cmd_map.specs.States.{is_unreadable, state_of_block, state_of_owner, state_mark};
 
 use d64_image::{BlockNo, Image};
 use d64_map::is_free;
@@ -28,7 +28,7 @@ pub enum BlockState {
 impl BlockState {
     /// Returns the character for a block in this state.
     pub fn mark(self) -> &'static [u8]
-        ensures { result.now ≡ mark self }
+        ensures { result.now ≡ state_mark self }
     {
         match self {
             BlockState::Free => b"-",
@@ -67,7 +67,7 @@ pub(crate) fn is_marked_free(image: &Image, block: BlockNo) -> bool
 
 /// Returns the state of a block: a read error comes before a fault, and a fault before the owner.
 pub fn state_of(inspection: &Inspection, block: BlockNo) -> BlockState
-    ensures { result ≡ state_of inspection.now block }
+    ensures { result ≡ state_of_block inspection.now block }
 {
     if is_unreadable(inspection, block) {
         return BlockState::Unreadable;

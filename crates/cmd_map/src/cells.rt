@@ -3,7 +3,7 @@ ghost use Rattle.std.specs.Prelude.{◌≡◌, ◌<◌, ◌++◌, length, OnOk};
 ghost use Rattle.std.specs.FinSet as set;
 ghost use Rattle.d64_map.specs.Map.{free_blocks};
 ghost use Rattle.d64_survey.specs.Owners.{owners_of};
-ghost use Rattle.cmd_map.specs.Cells.{read_text, error_text, claim_text, mark_text, cell_text, cell_title, cell_square, cell, cells, column_x, row_y};
+ghost use Rattle.cmd_map.specs.Cells.{read_text, block_error_text, claim_text, mark_text, cell_text, cell_title, cell_square, block_cell, block_cells, column_x, row_y};
 
 use crate::block_state::{is_marked_free, state_of};
 use crate::colour::colour_of;
@@ -46,9 +46,9 @@ fn push_read(out: &mut Vec<u8>, code: u8) -> Result<(), AllocError>
 }
 
 /// Appends a read error, if the code is one.
-#[tactic(auto, unfolding(crate::specs::Cells::error_text))]
+#[tactic(auto, unfolding(crate::specs::Cells::block_error_text))]
 fn push_error(out: &mut Vec<u8>, code: u8) -> Result<(), AllocError>
-    ensures { OnOk result (out.new.items ≡ out.old.items ++ error_text code) }
+    ensures { OnOk result (out.new.items ≡ out.old.items ++ block_error_text code) }
 {
     if is_read_error(code) {
         return push_read(out, code);
@@ -141,14 +141,14 @@ fn push_square(
 }
 
 /// Appends the cell of a block.
-#[tactic(auto, unfolding(crate::specs::Cells::cell))]
+#[tactic(auto, unfolding(crate::specs::Cells::block_cell))]
 fn push_cell(
     out: &mut Vec<u8>,
     inspection: &Inspection,
     block: BlockNo,
     text: &mut Vec<u8>,
 ) -> Result<(), AllocError>
-    ensures { OnOk result (out.new.items ≡ out.old.items ++ cell inspection.now block) }
+    ensures { OnOk result (out.new.items ≡ out.old.items ++ block_cell inspection.now block) }
 {
     push_square(out, inspection, block, text)?;
     let state = state_of(inspection, block);
@@ -157,13 +157,13 @@ fn push_cell(
 }
 
 /// Appends the cells of all blocks.
-#[tactic(auto, unfolding(crate::specs::Cells::cells))]
+#[tactic(auto, unfolding(crate::specs::Cells::block_cells))]
 pub(crate) fn push_cells(
     out: &mut Vec<u8>,
     inspection: &Inspection,
     text: &mut Vec<u8>,
 ) -> Result<(), AllocError>
-    ensures { OnOk result (out.new.items ≡ out.old.items ++ cells inspection.now) }
+    ensures { OnOk result (out.new.items ≡ out.old.items ++ block_cells inspection.now) }
 {
     for block in inspection.image().blocks() {
         push_cell(out, inspection, block, text)?;

@@ -2,7 +2,7 @@
 ghost use Rattle.std.specs.Prelude.{◌≡◌, ◌<◌, ◌≤◌, ◌++◌, codes, decimal, length, OnOk};
 ghost use Rattle.d64_image.specs.Image.{tracks_of};
 ghost use Rattle.d64_survey.specs.Inspection.{entry_count};
-ghost use Rattle.cmd_map.specs.Legend.{sample, state_sample, state_words, state_row, state_rows, row_x as row_x_of, row_y as row_y_of, name_at, file_row, placed_row, file_rows, more_row, files_head, legend, rows_below as rows_below_of};
+ghost use Rattle.cmd_map.specs.Legend.{sample, state_sample, state_words, state_row, state_rows, row_x as row_x_of, row_y as row_y_of, legend_name_at, legend_file_row, placed_row, legend_file_rows, more_row, files_head, legend, rows_below as rows_below_of};
 
 use crate::block_state::BlockState;
 use crate::colour::{Colour, colour_of_slot};
@@ -118,9 +118,9 @@ fn row_y(tracks: u8, place: usize) -> usize
 }
 
 /// Appends a file's name, as far as it fits.
-#[tactic(auto, unfolding(crate::specs::Legend::name_at))]
+#[tactic(auto, unfolding(crate::specs::Legend::legend_name_at))]
 fn push_name(out: &mut Vec<u8>, x: usize, y: usize, name: &[u8]) -> Result<(), AllocError>
-    ensures { OnOk result (out.new.items ≡ out.old.items ++ name_at x y name.now) }
+    ensures { OnOk result (out.new.items ≡ out.old.items ++ legend_name_at x y name.now) }
 {
     let mut text = Vec::new(*out.allocator());
     push_spelling(&mut text, name)?;
@@ -130,7 +130,7 @@ fn push_name(out: &mut Vec<u8>, x: usize, y: usize, name: &[u8]) -> Result<(), A
 }
 
 /// Appends the row of a file at a place: its colour, its name, and its number of blocks.
-#[tactic(auto, unfolding(crate::specs::Legend::file_row))]
+#[tactic(auto, unfolding(crate::specs::Legend::legend_file_row))]
 fn push_file_row(
     out: &mut Vec<u8>,
     x: usize,
@@ -139,7 +139,7 @@ fn push_file_row(
     blocks: usize,
 ) -> Result<(), AllocError>
     requires { (x < 1000) × (y < 10000) }
-    ensures { OnOk result (out.new.items ≡ out.old.items ++ file_row x y entry.now.slot entry.now.bytes blocks) }
+    ensures { OnOk result (out.new.items ≡ out.old.items ++ legend_file_row x y entry.now.slot entry.now.bytes blocks) }
 {
     push_path(
         out,
@@ -170,9 +170,9 @@ fn push_placed_row(
 }
 
 /// Appends the rows of the first of the files.
-#[tactic(auto, unfolding(crate::specs::Legend::file_rows))]
+#[tactic(auto, unfolding(crate::specs::Legend::legend_file_rows))]
 fn push_file_rows(out: &mut Vec<u8>, inspection: &Inspection) -> Result<(), AllocError>
-    ensures { OnOk result (out.new.items ≡ out.old.items ++ file_rows inspection.now.image) }
+    ensures { OnOk result (out.new.items ≡ out.old.items ++ legend_file_rows inspection.now.image) }
 {
     let mut place = 0;
     for entry in inspection.survey().slots() {

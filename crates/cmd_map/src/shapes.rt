@@ -2,7 +2,7 @@
 ghost use Rattle.std.specs.Prelude.{◌≡◌, ◌+◌, ◌<◌, ◌++◌, [], codes, decimal, OnOk};
 ghost use Rattle.out_markup.specs.Markup.{attribute, element, empty_element, tag, escaped_text};
 ghost use Rattle.cmd_map.specs.Colours.{class_of};
-ghost use Rattle.cmd_map.specs.Shapes.{path_from, place_at, text_at, text_of, path_of};
+ghost use Rattle.cmd_map.specs.Shapes.{path_from, place_at, text_at, text_element, path_element};
 ghost use Rattle.cmd_map.specs.Cells.{square_of, mark_at};
 
 use crate::block_state::BlockState;
@@ -74,7 +74,7 @@ pub(crate) fn push_text_at(
 }
 
 /// Appends a line of text with a class, in which no byte makes markup.
-#[tactic(auto, unfolding(crate::specs::Shapes::text_of, out_markup::specs::Markup::element))]
+#[tactic(auto, unfolding(crate::specs::Shapes::text_element, out_markup::specs::Markup::element))]
 pub(crate) fn push_text_of(
     out: &mut Vec<u8>,
     class: &[u8],
@@ -82,7 +82,7 @@ pub(crate) fn push_text_of(
     y: usize,
     text: &[u8],
 ) -> Result<(), AllocError>
-    ensures { OnOk result (out.new.items ≡ out.old.items ++ text_of class.now x y (escaped_text text.now)) }
+    ensures { OnOk result (out.new.items ≡ out.old.items ++ text_element class.now x y (escaped_text text.now)) }
 {
     push_class_text_tag(out, class, x, y)?;
     out.extend_from_slice(b">")?;
@@ -91,7 +91,7 @@ pub(crate) fn push_text_of(
 }
 
 /// Appends a number with a class.
-#[tactic(auto, unfolding(crate::specs::Shapes::text_of, out_markup::specs::Markup::element))]
+#[tactic(auto, unfolding(crate::specs::Shapes::text_element, out_markup::specs::Markup::element))]
 pub(crate) fn push_number_of(
     out: &mut Vec<u8>,
     class: &[u8],
@@ -99,7 +99,7 @@ pub(crate) fn push_number_of(
     y: usize,
     number: usize,
 ) -> Result<(), AllocError>
-    ensures { OnOk result (out.new.items ≡ out.old.items ++ text_of class.now x y (decimal number)) }
+    ensures { OnOk result (out.new.items ≡ out.old.items ++ text_element class.now x y (decimal number)) }
 {
     push_class_text_tag(out, class, x, y)?;
     out.extend_from_slice(b">")?;
@@ -134,7 +134,7 @@ fn push_path_tag(
 }
 
 /// Appends a path in a colour.
-#[tactic(auto, unfolding(crate::specs::Shapes::path_of, out_markup::specs::Markup::empty_element))]
+#[tactic(auto, unfolding(crate::specs::Shapes::path_element, out_markup::specs::Markup::empty_element))]
 pub(crate) fn push_path(
     out: &mut Vec<u8>,
     colour: Colour,
@@ -142,14 +142,14 @@ pub(crate) fn push_path(
     y: usize,
     steps: &[u8],
 ) -> Result<(), AllocError>
-    ensures { OnOk result (out.new.items ≡ out.old.items ++ path_of (class_of colour) x y steps.now) }
+    ensures { OnOk result (out.new.items ≡ out.old.items ++ path_element (class_of colour) x y steps.now) }
 {
     push_path_tag(out, colour, x, y, steps)?;
     out.extend_from_slice(b"/>")
 }
 
 /// Appends a path with a class.
-#[tactic(auto, unfolding(crate::specs::Shapes::path_of, out_markup::specs::Markup::empty_element, out_markup::specs::Markup::tag))]
+#[tactic(auto, unfolding(crate::specs::Shapes::path_element, out_markup::specs::Markup::empty_element, out_markup::specs::Markup::tag))]
 fn push_class_path(
     out: &mut Vec<u8>,
     class: &[u8],
@@ -157,7 +157,7 @@ fn push_class_path(
     y: usize,
     steps: &[u8],
 ) -> Result<(), AllocError>
-    ensures { OnOk result (out.new.items ≡ out.old.items ++ path_of class.now x y steps.now) }
+    ensures { OnOk result (out.new.items ≡ out.old.items ++ path_element class.now x y steps.now) }
 {
     out.extend_from_slice(b"<path")?;
     push_attribute(out, b"class", class)?;

@@ -5,7 +5,7 @@ ghost use Rattle.d64_image.specs.Image.{tracks_of};
 ghost use Rattle.d64_survey.specs.Inspection.{entry_count};
 ghost use Rattle.out_messages.specs.CheckText.{label_text};
 ghost use Rattle.out_markup.specs.Markup.{element, tag};
-ghost use Rattle.cmd_map.specs.Svg.{name_text, summary, height as height_of, description, title, page, page_attributes, label_line, summary_line, heads, column_head, column_heads, row_head, row_heads, view_box, picture_attributes, top, front, content, picture, svg_of};
+ghost use Rattle.cmd_map.specs.Svg.{name_text, picture_summary, height as height_of, description, title, page, page_attributes, label_line, summary_line, heads, column_head, column_heads, row_head, row_heads, view_box, picture_attributes, top, front, picture_content, picture, svg_of};
 
 use crate::cells::{column_x, push_cells, row_y};
 use crate::legend::{SHOWN_FILES, push_legend, rows_below};
@@ -46,9 +46,9 @@ fn push_name_text(out: &mut Vec<u8>, name: &[u8]) -> Result<(), AllocError>
 }
 
 /// Appends the file's name, what is on the disk, and its state.
-#[tactic(auto, unfolding(crate::specs::Svg::summary))]
+#[tactic(auto, unfolding(crate::specs::Svg::picture_summary))]
 fn push_summary(out: &mut Vec<u8>, name: &[u8], inspection: &Inspection) -> Result<(), AllocError>
-    ensures { OnOk result (out.new.items ≡ out.old.items ++ summary name.now inspection.now) }
+    ensures { OnOk result (out.new.items ≡ out.old.items ++ picture_summary name.now inspection.now) }
 {
     push_name_text(out, name)?;
     out.extend_from_slice(b": ")?;
@@ -244,14 +244,14 @@ pub(crate) fn push_front(
 }
 
 /// Appends the whole content of the picture.
-#[tactic(auto, unfolding(crate::specs::Svg::content))]
+#[tactic(auto, unfolding(crate::specs::Svg::picture_content))]
 fn push_content(
     out: &mut Vec<u8>,
     name: &[u8],
     inspection: &Inspection,
     high: usize,
 ) -> Result<(), AllocError>
-    ensures { OnOk result (out.new.items ≡ out.old.items ++ content name.now inspection.now high) }
+    ensures { OnOk result (out.new.items ≡ out.old.items ++ picture_content name.now inspection.now high) }
 {
     let mut text = Vec::new(*out.allocator());
     push_top(out, name, inspection, high)?;

@@ -1,6 +1,6 @@
 //! The map of a disk as text.
 ghost use Rattle.std.specs.Prelude.{◌≡◌, ◌<◌, ◌≤◌, ◌++◌, OnOk};
-ghost use Rattle.cmd_map.specs.MapText.{head_line, column_lines, padded_number, row, track_line, track_lines, legend_line, map_text as map_text_of};
+ghost use Rattle.cmd_map.specs.MapText.{map_head_line, column_lines, padded_number, track_row, track_line, track_lines, legend_line, map_text as map_text_of};
 
 use crate::block_state::state_of;
 use d64_image::BlockNo;
@@ -20,9 +20,9 @@ const LEGEND_LINE: &[u8] =
     b"- free   # a file   = map or directory   ? marked used, belongs to no file   ! shared, or wrongly marked free   x read error\n";
 
 /// Appends the line with the file's name, the disk's name, and its state.
-#[tactic(auto, unfolding(crate::specs::MapText::head_line))]
+#[tactic(auto, unfolding(crate::specs::MapText::map_head_line))]
 fn push_head(out: &mut Vec<u8>, name: &[u8], inspection: &Inspection) -> Result<(), AllocError>
-    ensures { OnOk result (out.new.items ≡ out.old.items ++ head_line name.now inspection.now) }
+    ensures { OnOk result (out.new.items ≡ out.old.items ++ map_head_line name.now inspection.now) }
 {
     push_shown(out, name)?;
     out.extend_from_slice(b" ")?;
@@ -44,7 +44,7 @@ fn push_padded(out: &mut Vec<u8>, track: u8) -> Result<(), AllocError>
 /// Appends the characters of a track's blocks.
 fn push_row(out: &mut Vec<u8>, inspection: &Inspection, track: u8) -> Result<(), AllocError>
     requires { (1 ≤ track) × (track < 41) }
-    ensures { OnOk result (out.new.items ≡ out.old.items ++ row inspection.now track) }
+    ensures { OnOk result (out.new.items ≡ out.old.items ++ track_row inspection.now track) }
 {
     for sector in 0..SECTORS {
         match BlockNo::of(track, sector) {

@@ -3,43 +3,43 @@ use Rattle.std.specs.Prelude.{◌≡◌, ◌⊎◌, MatchBool, option_map, Optio
 use Rattle.d64_image.specs.Disk.{Bytes}
 use Rattle.d64_survey.specs.Dump.{dump_bytes}
 use Rattle.host_storage.specs.Files.{HostState}
-use Rattle.host_storage.specs.Folders.{with_file, Makes, CountsMaking}
+use Rattle.host_storage.specs.Folders.{with_stored_file, Makes, CountsMaking}
 use Rattle.host_storage.specs.declared.host.FolderFault.{FolderFault}
 use Rattle.program_batch.specs.Answers.{Answer}
 use Rattle.program_batch.specs.Reasons.{IsWriteReason}
 use Rattle.program_batch.specs.declared.reason.Reason.{Reason}
-use Rattle.cmd_merge.specs.Setup.{SetupView}
+use Rattle.cmd_merge.specs.Setup.{MergeSetupView}
 use Rattle.cmd_merge.specs.Reports.{ReadingsView, is_answered, made, faulted_answer, merged_answer, unwritten_answer}
 
 -- a file of these bytes was made at a path of the host, at which nothing was; or making it failed,
 -- and a fault of the device is counted
-abbrev pub IsMade : Bytes → Bytes → HostState → Result (Unit {0}) FolderFault → HostState → Type 0
-IsMade path bytes old result new =
-    Makes (with_file path bytes) old.files path result new.files × CountsMaking old.failures new.failures result
+abbrev pub IsFileMade : Bytes → Bytes → HostState → Result (Unit {0}) FolderFault → HostState → Type 0
+IsFileMade path bytes old result new =
+    Makes (with_stored_file path bytes) old.files path result new.files × CountsMaking old.failures new.failures result
 
 -- the result of a merge, by whether the file was made; if not, with the reason, as far as the host
 -- can say
-abbrev pub AnswersMaking : SetupView → ReadingsView → Bytes → Result (Unit {0}) FolderFault → HostState → Answer → Type 0
+abbrev pub AnswersMaking : MergeSetupView → ReadingsView → Bytes → Result (Unit {0}) FolderFault → HostState → Answer → Type 0
 AnswersMaking setup readings bytes (Ok done) host answer = answer ≡ merged_answer setup readings (Some bytes)
 AnswersMaking setup readings bytes (Err fault) host answer =
     (reason : Option Reason) × IsWriteReason host.files reason × (answer ≡ unwritten_answer setup readings reason)
 
 -- what is done with the bytes of the dump that is made; None if there is a conflict
-abbrev pub Writes : SetupView → ReadingsView → Option Bytes → HostState → Answer → HostState → Type 0
-Writes setup readings None old answer new = (new ≡ old) × (answer ≡ merged_answer setup readings None)
-Writes setup readings (Some bytes) old answer new =
-    (result : Result (Unit {0}) FolderFault) × IsMade setup.out bytes old result new × AnswersMaking setup readings bytes result new answer
+abbrev pub WritesMerged : MergeSetupView → ReadingsView → Option Bytes → HostState → Answer → HostState → Type 0
+WritesMerged setup readings None old answer new = (new ≡ old) × (answer ≡ merged_answer setup readings None)
+WritesMerged setup readings (Some bytes) old answer new =
+    (result : Result (Unit {0}) FolderFault) × IsFileMade setup.out bytes old result new × AnswersMaking setup readings bytes result new answer
 
 -- how a merge ends after its files were read: if one of them is no dump or cannot be read, nothing
 -- is written
-abbrev pub Finishes : SetupView → ReadingsView → HostState → Answer → HostState → Type 0
+abbrev pub Finishes : MergeSetupView → ReadingsView → HostState → Answer → HostState → Type 0
 Finishes setup readings old answer new =
     MatchBool (is_answered readings)
-    (Writes setup readings (option_map dump_bytes (made setup readings)) old answer new)
+    (WritesMerged setup readings (option_map dump_bytes (made setup readings)) old answer new)
     ((new ≡ old) × (answer ≡ faulted_answer readings))
 
 -- what was done if memory ran out: nothing, or the file was made, or making it failed
-abbrev pub MayHaveMade : SetupView → Option Bytes → HostState → HostState → Type 0
+abbrev pub MayHaveMade : MergeSetupView → Option Bytes → HostState → HostState → Type 0
 MayHaveMade setup None old new = new ≡ old
 MayHaveMade setup (Some bytes) old new =
-    (new ≡ old) ⊎ ((result : Result (Unit {0}) FolderFault) × IsMade setup.out bytes old result new)
+    (new ≡ old) ⊎ ((result : Result (Unit {0}) FolderFault) × IsFileMade setup.out bytes old result new)

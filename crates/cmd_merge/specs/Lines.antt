@@ -7,14 +7,14 @@ use Rattle.d64_image.specs.Disk.{Bytes}
 use Rattle.d64_survey.specs.Dump.{DumpView, is_read_error, drive_status}
 use Rattle.d64_merge.specs.Copies.{known_code}
 use Rattle.d64_merge.specs.Choices.{dump_at}
-use Rattle.d64_merge.specs.Merged.{count_of, is_outcome}
+use Rattle.d64_merge.specs.Merged.{outcome_count, is_outcome}
 use Rattle.d64_merge.specs.declared.choice.Choice.{Choice}
 use Rattle.d64_merge.specs.declared.outcome.Outcome.{Outcome}
 use Rattle.d64_merge.specs.declared.outcome.Outcome.TheVariants.{Same, Taken, Lost, Majority, First, Conflict}
 use Rattle.host_names.specs.Shown.{shown_name}
-use Rattle.out_messages.specs.FaultText.{status_text}
-use Rattle.out_messages.specs.Words.{block_text, count_of as count_text}
-use Rattle.cmd_merge.specs.Objects.{name_at, entry_text}
+use Rattle.out_messages.specs.FaultText.{drive_status_text}
+use Rattle.out_messages.specs.Words.{block_text, counted_text as count_text}
+use Rattle.cmd_merge.specs.Objects.{name_at_place, entry_text}
 
 -- what became of a block, before the name of the file whose bytes were taken
 abbrev pub outcome_text : Outcome → List ℕ
@@ -32,7 +32,7 @@ source_text name = option_map_or shown_name name []
 -- the read error of a block after the name of a file, if the code is a read error; and that of a
 -- block that may have no code
 abbrev pub error_text : Bytes → ℕ → List ℕ
-error_text name code = if is_read_error code then codes "; " ++ (shown_name name ++ (codes ": code " ++ (decimal code ++ status_text (drive_status code)))) else []
+error_text name code = if is_read_error code then codes "; " ++ (shown_name name ++ (codes ": code " ++ (decimal code ++ drive_status_text (drive_status code)))) else []
 
 abbrev pub copy_text : Bytes → Option ℕ → List ℕ
 copy_text name code = option_map_or (error_text name) code []
@@ -45,7 +45,7 @@ error_of block (Some name) (Some dump) = copy_text name (known_code block dump)
 
 -- the same for the file and the dump at a place
 abbrev pub error_at : ℕ → List Bytes → List DumpView → ℕ → List ℕ
-error_at block names dumps place = error_of block (name_at names (Some place)) (dump_at dumps (Some place))
+error_at block names dumps place = error_of block (name_at_place names (Some place)) (dump_at dumps (Some place))
 
 -- the read errors of a block in all dumps
 unfoldable pub error_texts : ℕ → List Bytes → List DumpView → List ℕ
@@ -54,7 +54,7 @@ error_texts block names dumps = flat_map (error_at block names dumps) (range_wit
 -- a line for a block
 unfoldable pub choice_text : List Bytes → List DumpView → Choice → List ℕ
 choice_text names dumps choice =
-    codes "  " ++ (block_text choice.block ++ (outcome_text choice.outcome ++ (source_text (name_at names choice.source)
+    codes "  " ++ (block_text choice.block ++ (outcome_text choice.outcome ++ (source_text (name_at_place names choice.source)
     ++ (error_texts choice.block names dumps ++ codes "\n"))))
 
 -- the line of a block, and the lines of all blocks; a block that is the same in all dumps has none
@@ -71,14 +71,14 @@ count_if_any count word = if count == 0 then [] else codes ", " ++ (decimal coun
 -- how many blocks are the same in all dumps, taken, or lost
 unfoldable pub settled_text : List Choice → List ℕ
 settled_text list =
-    decimal (count_of Same list) ++ (codes " the same in all dumps"
-    ++ (count_if_any (count_of Taken list) (codes " taken") ++ count_if_any (count_of Lost list) (codes " lost")))
+    decimal (outcome_count Same list) ++ (codes " the same in all dumps"
+    ++ (count_if_any (outcome_count Taken list) (codes " taken") ++ count_if_any (outcome_count Lost list) (codes " lost")))
 
 -- how many blocks whose good copies differ have each outcome
 unfoldable pub differing_text : List Choice → List ℕ
 differing_text list =
-    count_if_any (count_of Majority list) (codes " by majority")
-    ++ (count_if_any (count_of First list) (codes " from the first good copy") ++ count_if_any (count_of Conflict list) (codes " in conflict"))
+    count_if_any (outcome_count Majority list) (codes " by majority")
+    ++ (count_if_any (outcome_count First list) (codes " from the first good copy") ++ count_if_any (outcome_count Conflict list) (codes " in conflict"))
 
 -- how many blocks have each outcome
 abbrev pub counts_text : List Choice → List ℕ
@@ -89,8 +89,8 @@ abbrev pub codes_text : Bool → List ℕ
 codes_text with_codes = if with_codes then codes " tracks with read codes, " else codes " tracks, "
 
 -- how many tracks and blocks the dump has, and whether it has read codes
-unfoldable pub size_text : ℕ → Bool → List Choice → List ℕ
-size_text tracks with_codes list =
+unfoldable pub merged_size_text : ℕ → Bool → List Choice → List ℕ
+merged_size_text tracks with_codes list =
     decimal tracks ++ (codes_text with_codes ++ (count_text (length list) (codes "block") ++ codes ": "))
 
 -- the track of an entry, after a space; and the line of those that hold what the dump lacks
@@ -110,7 +110,7 @@ digest_text digest = option_map_or (λ bytes. codes "  SHA-256 " ++ (encode_lowe
 
 -- the line of the file that is made
 unfoldable pub first_line : Bytes → ℕ → Bool → List Choice → List ℕ
-first_line out tracks with_codes list = shown_name out ++ (codes ": " ++ (size_text tracks with_codes list ++ (counts_text list ++ codes "\n")))
+first_line out tracks with_codes list = shown_name out ++ (codes ": " ++ (merged_size_text tracks with_codes list ++ (counts_text list ++ codes "\n")))
 
 -- all that is printed of a merge for people
 unfoldable pub text_report : Bytes → ℕ → Bool → List Bytes → List DumpView → List Choice → List ℕ → Option Bytes → List ℕ

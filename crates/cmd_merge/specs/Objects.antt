@@ -7,11 +7,11 @@ use Rattle.hex.specs.Hex.{encode_lower}
 use Rattle.d64_image.specs.Disk.{Bytes}
 use Rattle.d64_survey.specs.Dump.{DumpView}
 use Rattle.d64_merge.specs.Copies.{known_code}
-use Rattle.d64_merge.specs.Merged.{count_of, is_outcome}
+use Rattle.d64_merge.specs.Merged.{outcome_count, is_outcome}
 use Rattle.d64_merge.specs.declared.choice.Choice.{Choice}
 use Rattle.d64_merge.specs.declared.outcome.Outcome.{Outcome}
 use Rattle.d64_merge.specs.declared.outcome.Outcome.TheVariants.{Same, Taken, Lost, Majority, First, Conflict}
-use Rattle.out_json_csv.specs.Pairs.{block_text}
+use Rattle.out_json_csv.specs.Pairs.{block_field}
 use Rattle.out_json_csv.specs.Values.{Field, object_of, array_of, numeral, numeral_or_null, line_of}
 use Rattle.out_json_csv.specs.Unanswered.{host_value}
 
@@ -25,9 +25,9 @@ outcome_word First = codes "first"
 outcome_word Conflict = codes "conflict"
 
 -- the name of the file at a place, if there is a place
-abbrev pub name_at : List Bytes → Option ℕ → Option Bytes
-name_at names None = None
-name_at names (Some place) = slice_get names place
+abbrev pub name_at_place : List Bytes → Option ℕ → Option Bytes
+name_at_place names None = None
+name_at_place names (Some place) = slice_get names place
 
 -- a name of the host, or null
 abbrev pub name_or_null : Option Bytes → Json
@@ -40,8 +40,8 @@ codes_value dumps block = array_of (map (λ dump. numeral_or_null (known_code bl
 -- the block, what became of it, and whose bytes were taken
 abbrev pub choice_members : List Bytes → Choice → List Field
 choice_members names choice =
-    (codes "block", string (block_text choice.block)) ∷ (codes "result", string (outcome_word choice.outcome))
-    ∷ (codes "from", name_or_null (name_at names choice.source)) ∷ []
+    (codes "block", string (block_field choice.block)) ∷ (codes "result", string (outcome_word choice.outcome))
+    ∷ (codes "from", name_or_null (name_at_place names choice.source)) ∷ []
 
 -- the read codes of a block, as a member
 abbrev pub codes_members : List DumpView → ℕ → List Field
@@ -63,16 +63,16 @@ unfoldable pub entry_text : ℕ → List ℕ
 entry_text entry = decimal (1 + entry / 2) ++ (if entry % 2 == 0 then [] else codes ".5")
 
 -- the file that is made, how many tracks it has, whether it has read codes, and how many blocks
-abbrev pub size_members : Bytes → ℕ → Bool → List Choice → List Field
-size_members out tracks with_codes list =
+abbrev pub merged_size_members : Bytes → ℕ → Bool → List Choice → List Field
+merged_size_members out tracks with_codes list =
     (codes "out", host_value out) ∷ (codes "tracks", numeral tracks) ∷ (codes "codes", boolean with_codes) ∷ (codes "blocks", numeral (length list)) ∷ []
 
 -- how many blocks have an outcome; and that for each outcome other than `Same`
 abbrev pub count_member : Outcome → List Choice → Field
-count_member outcome list = (outcome_word outcome, numeral (count_of outcome list))
+count_member outcome list = (outcome_word outcome, numeral (outcome_count outcome list))
 
-abbrev pub count_members : List Choice → List Field
-count_members list =
+abbrev pub outcome_members : List Choice → List Field
+outcome_members list =
     count_member Taken list ∷ count_member Lost list ∷ count_member Majority list ∷ count_member First list ∷ count_member Conflict list ∷ []
 
 -- what is left on other tracks of G64 files
@@ -80,10 +80,10 @@ abbrev pub left_members : List ℕ → List Field
 left_members left = (codes "left", array_of (map (λ entry. string (entry_text entry)) left)) ∷ []
 
 -- the digest of the file that was made; null if none was
-abbrev pub digest_members : Option Bytes → List Field
-digest_members digest = (codes "sha256", option_map_or (λ bytes. string (encode_lower bytes)) digest null) ∷ []
+abbrev pub made_digest_members : Option Bytes → List Field
+made_digest_members digest = (codes "sha256", option_map_or (λ bytes. string (encode_lower bytes)) digest null) ∷ []
 
 -- the object of the summary
 abbrev pub summary_object : Bytes → ℕ → Bool → List Choice → List ℕ → Option Bytes → Json
 summary_object out tracks with_codes list left digest =
-    object_of (size_members out tracks with_codes list ++ (count_members list ++ (left_members left ++ digest_members digest)))
+    object_of (merged_size_members out tracks with_codes list ++ (outcome_members list ++ (left_members left ++ made_digest_members digest)))

@@ -4,7 +4,7 @@ use Rattle.sha2.specs.Sha256.{sha256}
 use Rattle.d64_image.specs.Disk.{Bytes}
 use Rattle.d64_survey.specs.Dump.{DumpView, dump_bytes}
 use Rattle.d64_g64.specs.DumpOf.{dump_of}
-use Rattle.d64_merge.specs.Merged.{merged_tracks, choices, count_of, keeps_codes, merged}
+use Rattle.d64_merge.specs.Merged.{merged_tracks, choices, outcome_count, keeps_codes, merged}
 use Rattle.d64_merge.specs.Left.{left}
 use Rattle.d64_merge.specs.declared.choice.Choice.{Choice}
 use Rattle.d64_merge.specs.declared.outcome.Outcome.TheVariants.{Lost, First, Conflict}
@@ -17,8 +17,8 @@ use Rattle.program_batch.specs.declared.report.Verdict.{Verdict}
 use Rattle.program_batch.specs.declared.report.Verdict.TheVariants.{Clean, Amiss, Failed}
 use Rattle.program_arguments.specs.declared.jobs.DiffForm.{DiffForm}
 use Rattle.program_arguments.specs.declared.jobs.DiffForm.TheVariants.{Text, Json}
-use Rattle.cmd_diff.specs.Differences.{Contents, fault_line, printed_fault}
-use Rattle.cmd_merge.specs.Setup.{SetupView}
+use Rattle.cmd_diff.specs.Differences.{Contents, uncompared_line, printed_fault}
+use Rattle.cmd_merge.specs.Setup.{MergeSetupView}
 use Rattle.cmd_merge.specs.Objects.{choice_lines, summary_object}
 use Rattle.cmd_merge.specs.Lines.{text_report}
 
@@ -42,33 +42,33 @@ with_dump bytes dump readings = record readings { files = readings.files ++ byte
 abbrev pub with_fault : DiffForm → Bytes → Contents → ReadingsView → ReadingsView
 with_fault form name contents readings = record readings {
   printed = readings.printed ++ printed_fault form name contents;
-  complaint = readings.complaint ++ fault_line name contents;
+  complaint = readings.complaint ++ uncompared_line name contents;
 }
 
 -- one more file with these bytes: its dump, or None if it is no dump
-abbrev pub with_bytes : DiffForm → Bytes → Bytes → Option DumpView → ReadingsView → ReadingsView
-with_bytes form name bytes (Some dump) readings = with_dump bytes dump readings
-with_bytes form name bytes None readings = with_fault form name (Ok bytes) readings
+abbrev pub with_file_bytes : DiffForm → Bytes → Bytes → Option DumpView → ReadingsView → ReadingsView
+with_file_bytes form name bytes (Some dump) readings = with_dump bytes dump readings
+with_file_bytes form name bytes None readings = with_fault form name (Ok bytes) readings
 
 -- one more file, of which this was read
-abbrev pub with_file : DiffForm → Bytes → Contents → ReadingsView → ReadingsView
-with_file form name (Ok bytes) readings = with_bytes form name bytes (dump_of bytes) readings
-with_file form name (Err reason) readings = with_fault form name (Err reason) readings
+abbrev pub with_read_file : DiffForm → Bytes → Contents → ReadingsView → ReadingsView
+with_read_file form name (Ok bytes) readings = with_file_bytes form name bytes (dump_of bytes) readings
+with_read_file form name (Err reason) readings = with_fault form name (Err reason) readings
 
 -- each file is a dump
 abbrev pub is_answered : ReadingsView → Bool
 is_answered readings = length readings.complaint == 0
 
 -- what becomes of the blocks
-abbrev pub choices_of : SetupView → ReadingsView → List Choice
+abbrev pub choices_of : MergeSetupView → ReadingsView → List Choice
 choices_of setup readings = choices setup.preference readings.dumps
 
 -- the dump that is made; None if there is a conflict
-abbrev pub made : SetupView → ReadingsView → Option DumpView
+abbrev pub made : MergeSetupView → ReadingsView → Option DumpView
 made setup readings = merged setup.preference setup.plain readings.dumps
 
 -- what is left on other tracks
-abbrev pub left_of : SetupView → ReadingsView → List ℕ
+abbrev pub left_of : MergeSetupView → ReadingsView → List ℕ
 left_of setup readings = left (merged_tracks readings.dumps) (choices_of setup readings) readings.files
 
 -- what is printed in a form
@@ -78,29 +78,29 @@ report_by Json out tracks with_codes names dumps list left digest =
     choice_lines names dumps list ++ line_of (summary_object out tracks with_codes list left digest)
 
 -- what is printed of a merge, with the digest of the file that was made; None if none was
-abbrev pub report_of : SetupView → ReadingsView → Option Bytes → List ℕ
+abbrev pub report_of : MergeSetupView → ReadingsView → Option Bytes → List ℕ
 report_of setup readings digest =
     report_by setup.form setup.out (merged_tracks readings.dumps) (keeps_codes setup.plain readings.dumps) setup.names readings.dumps
     (choices_of setup readings) (left_of setup readings) digest
 
 -- the result if the file that was to be made is there already
-abbrev pub present_answer : SetupView → Answer
-present_answer setup = record { printed = []; complaint = present_line setup.out; verdict = Failed }
+abbrev pub file_present_answer : MergeSetupView → Answer
+file_present_answer setup = record { printed = []; complaint = present_line setup.out; verdict = Failed }
 
 -- the result if a file is no dump or cannot be read
 abbrev pub faulted_answer : ReadingsView → Answer
 faulted_answer readings = record { printed = readings.printed; complaint = readings.complaint; verdict = Failed }
 
 -- the verdict: amiss if a block is lost, taken from the first good copy, or in conflict, else clean
-abbrev pub verdict_on : List Choice → Verdict
-verdict_on list = if count_of Lost list + count_of First list + count_of Conflict list == 0 then Clean else Amiss
+abbrev pub merge_verdict : List Choice → Verdict
+merge_verdict list = if outcome_count Lost list + outcome_count First list + outcome_count Conflict list == 0 then Clean else Amiss
 
 -- the result if the file was made of these bytes; None if a conflict forbade it
-abbrev pub merged_answer : SetupView → ReadingsView → Option Bytes → Answer
+abbrev pub merged_answer : MergeSetupView → ReadingsView → Option Bytes → Answer
 merged_answer setup readings bytes =
-    record { printed = report_of setup readings (option_map sha256 bytes); complaint = []; verdict = verdict_on (choices_of setup readings) }
+    record { printed = report_of setup readings (option_map sha256 bytes); complaint = []; verdict = merge_verdict (choices_of setup readings) }
 
 -- the result if the file cannot be made, with the reason, if one is known
-abbrev pub unwritten_answer : SetupView → ReadingsView → Option Reason → Answer
+abbrev pub unwritten_answer : MergeSetupView → ReadingsView → Option Reason → Answer
 unwritten_answer setup readings reason =
     record { printed = report_of setup readings None; complaint = with_known_reason reason (unwritten_line setup.out); verdict = Failed }

@@ -6,7 +6,7 @@ use Rattle.program_arguments.specs.declared.jobs.DiffForm.{DiffForm}
 
 -- the file that is made, what is to be done if good copies differ, whether read codes are left out,
 -- the form of the output, and the files whose dumps are merged
-pub record SetupView : Type 0 where
+pub record MergeSetupView : Type 0 where
   pub out : Bytes
   pub preference : Preference
   pub plain : Bool

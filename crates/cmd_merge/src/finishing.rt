@@ -2,8 +2,8 @@
 ghost use Rattle.std.specs.Prelude.{◌≡◌, IfOk, IfErr, OnOk, false, true, option_map};
 ghost use Rattle.d64_survey.specs.Dump.{dump_bytes};
 ghost use Rattle.program_batch.specs.Answers.{answer_of};
-ghost use Rattle.cmd_merge.specs.Finishing.{Finishes, Writes, MayHaveMade};
-ghost use Rattle.cmd_merge.specs.Reports.{made, choices_of, left_of, present_answer, faulted_answer, merged_answer, unwritten_answer};
+ghost use Rattle.cmd_merge.specs.Finishing.{Finishes, WritesMerged, MayHaveMade};
+ghost use Rattle.cmd_merge.specs.Reports.{made, choices_of, left_of, file_present_answer, faulted_answer, merged_answer, unwritten_answer};
 
 use crate::readings::Readings;
 use crate::report::{Plan, plan_of, print_report, verdict_on};
@@ -19,7 +19,7 @@ use std::mem;
 
 /// Replaces the buffer's contents by the line that the file to be made is there already.
 pub fn say_present(setup: &Setup, buffer: &mut ReportBuffer) -> Result<Verdict, AllocError>
-    ensures { IfOk result (λ verdict. answer_of buffer.new.printed.items buffer.new.complaint.items verdict ≡ present_answer setup.now) }
+    ensures { IfOk result (λ verdict. answer_of buffer.new.printed.items buffer.new.complaint.items verdict ≡ file_present_answer setup.now) }
 {
     buffer.clear();
     present_line(&mut buffer.complaint, setup.out.as_bytes())?;
@@ -97,7 +97,7 @@ fn write<H: Host>(
 ) -> Result<Verdict, AllocError>
     requires list { plan.now.list.items ≡ choices_of setup.now readings.now }
     requires left { plan.now.left.items ≡ left_of setup.now readings.now }
-    ensures written { IfOk result (λ verdict. Writes setup.now readings.now (option_map dump_bytes (made setup.now readings.now)) (H.state host.old)
+    ensures written { IfOk result (λ verdict. WritesMerged setup.now readings.now (option_map dump_bytes (made setup.now readings.now)) (H.state host.old)
         (answer_of buffer.new.printed.items buffer.new.complaint.items verdict) (H.state host.new)) }
     ensures memory { IfErr result (λ error. MayHaveMade setup.now (option_map dump_bytes (made setup.now readings.now)) (H.state host.old) (H.state host.new)) }
 {

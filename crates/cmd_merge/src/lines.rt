@@ -2,7 +2,7 @@
 ghost use Rattle.std.specs.Prelude.{◌≡◌, ◌++◌, map, option_map, string_bytes, OnOk};
 ghost use Rattle.std.specs.List.{flat_map};
 ghost use Rattle.hex.specs.Hex.{encode_lower};
-ghost use Rattle.cmd_merge.specs.Lines.{codes_text, outcome_text, source_text, error_text, copy_text, error_of, error_at, error_texts, choice_text, line_of_choice, lines_of_choices, count_if_any, settled_text, differing_text, counts_text, size_text, listed_entry, left_line, left_text, digest_text, first_line, text_report};
+ghost use Rattle.cmd_merge.specs.Lines.{codes_text, outcome_text, source_text, error_text, copy_text, error_of, error_at, error_texts, choice_text, line_of_choice, lines_of_choices, count_if_any, settled_text, differing_text, counts_text, merged_size_text, listed_entry, left_line, left_text, digest_text, first_line, text_report};
 
 use crate::objects::{Summary, entry_text, name_at};
 use d64_image::BlockNo;
@@ -216,14 +216,14 @@ fn codes_text(with_codes: bool) -> &'static [u8]
 }
 
 /// Appends how many tracks and blocks the dump has, and whether it has read codes.
-#[tactic(auto, unfolding(crate::specs::Lines::size_text))]
+#[tactic(auto, unfolding(crate::specs::Lines::merged_size_text))]
 fn push_size(
     out: &mut Vec<u8>,
     tracks: u8,
     with_codes: bool,
     list: &[Choice],
 ) -> Result<(), AllocError>
-    ensures { OnOk result (out.new.items ≡ out.old.items ++ size_text tracks with_codes list.now) }
+    ensures { OnOk result (out.new.items ≡ out.old.items ++ merged_size_text tracks with_codes list.now) }
 {
     push_number(out, usize::from(tracks))?;
     out.extend_from_slice(codes_text(with_codes))?;

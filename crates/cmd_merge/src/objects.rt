@@ -2,7 +2,7 @@
 ghost use Rattle.std.specs.Prelude.{◌≡◌, [], ◌∷◌, ◌++◌, map, option_map, string_bytes, codes, IfOk};
 ghost use Rattle.json.specs.Json.{string};
 ghost use Rattle.out_json_csv.specs.Values.{Prints, PrintsMembers, array_of, line_of, numeral_or_null};
-ghost use Rattle.cmd_merge.specs.Objects.{outcome_word, name_at, name_or_null, codes_value, choice_members, codes_members, choice_object, choice_line, choice_lines, entry_text, size_members, count_member, count_members, left_members, digest_members, summary_object};
+ghost use Rattle.cmd_merge.specs.Objects.{outcome_word, name_at_place, name_or_null, codes_value, choice_members, codes_members, choice_object, choice_line, choice_lines, entry_text, merged_size_members, count_member, outcome_members, left_members, made_digest_members, summary_object};
 
 use arrayvec::ArrayString;
 use d64_image::BlockNo;
@@ -52,7 +52,7 @@ fn outcome_word(outcome: Outcome) -> &'static str
 
 /// Returns the name of the file at a place, or None if there is no place.
 pub(crate) fn name_at(names: &[String], place: Option<usize>) -> Option<&String>
-    ensures { option_map (λ name. string_bytes name.now) result ≡ name_at (map string_bytes names.now) place }
+    ensures { option_map (λ name. string_bytes name.now) result ≡ name_at_place (map string_bytes names.now) place }
 {
     match place {
         Some(place) => names.get(place),
@@ -188,7 +188,7 @@ pub(crate) fn entry_text(entry: u8) -> ArrayString<ENTRY_LEN>
 /// Prints the name of the file that is made, how many tracks it has, whether it has read codes, and
 /// how many blocks.
 fn put_size(scratch: &mut Vec<u8>, writer: &mut Writer, summary: &Summary) -> Result<(), AllocError>
-    ensures { PrintsMembers result writer.old writer.new (size_members summary.now.out.now summary.now.tracks summary.now.with_codes summary.now.list.now) }
+    ensures { PrintsMembers result writer.old writer.new (merged_size_members summary.now.out.now summary.now.tracks summary.now.with_codes summary.now.list.now) }
 {
     put_host_name(scratch, writer, "out", summary.out)?;
     put_number(writer, "tracks", u64::from(summary.tracks))?;
@@ -209,7 +209,7 @@ fn put_count(writer: &mut Writer, outcome: Outcome, list: &[Choice]) -> Result<(
 
 /// Prints how many blocks have each outcome other than `Same`.
 fn put_counts(writer: &mut Writer, list: &[Choice]) -> Result<(), AllocError>
-    ensures { PrintsMembers result writer.old writer.new (count_members list.now) }
+    ensures { PrintsMembers result writer.old writer.new (outcome_members list.now) }
 {
     put_count(writer, Outcome::Taken, list)?;
     put_count(writer, Outcome::Lost, list)?;
@@ -244,7 +244,7 @@ fn put_digest(
     writer: &mut Writer,
     digest: Option<&[u8; 32]>,
 ) -> Result<(), AllocError>
-    ensures { PrintsMembers result writer.old writer.new (digest_members (option_map (λ d. d.now) digest.entry)) }
+    ensures { PrintsMembers result writer.old writer.new (made_digest_members (option_map (λ d. d.now) digest.entry)) }
 {
     match digest {
         Some(digest) => put_hexadecimal(scratch, writer, "sha256", digest),
@@ -258,7 +258,7 @@ fn put_summary(
     writer: &mut Writer,
     summary: &Summary,
 ) -> Result<(), AllocError>
-    ensures { PrintsMembers result writer.old writer.new (size_members summary.now.out.now summary.now.tracks summary.now.with_codes summary.now.list.now ++ (count_members summary.now.list.now ++ (left_members summary.now.left.now ++ digest_members (option_map (λ d. d.now) summary.now.digest)))) }
+    ensures { PrintsMembers result writer.old writer.new (merged_size_members summary.now.out.now summary.now.tracks summary.now.with_codes summary.now.list.now ++ (outcome_members summary.now.list.now ++ (left_members summary.now.left.now ++ made_digest_members (option_map (λ d. d.now) summary.now.digest)))) }
 {
     put_size(scratch, writer, summary)?;
     put_counts(writer, summary.list)?;

@@ -1,8 +1,8 @@
 //! `Readings`: the dumps that are merged, and what is printed and reported of the other files.
 ghost use Rattle.std.specs.Prelude.{◌≡◌, Ok as read, Err as not_read, Some, None, ◌++◌, ◌∷◌, [], OnOk, length};
 ghost use Rattle.d64_g64.specs.DumpOf.{dump_of};
-ghost use Rattle.cmd_diff.specs.Differences.{contents_by, fault_line, printed_fault};
-ghost use Rattle.cmd_merge.specs.Reports.{no_readings, with_dump, with_fault, with_bytes, with_file, is_answered};
+ghost use Rattle.cmd_diff.specs.Differences.{contents_by, uncompared_line, printed_fault};
+ghost use Rattle.cmd_merge.specs.Reports.{no_readings, with_dump, with_fault, with_file_bytes, with_read_file, is_answered};
 
 use cmd_diff::{print_fault, push_fault_line};
 use d64_g64::refill_from;
@@ -90,7 +90,7 @@ impl Readings {
 
     /// Adds a file with these bytes: its dump, or what is printed and reported if it is no dump.
     fn add_bytes(&mut self, form: DiffForm, name: &[u8], bytes: Vec<u8>) -> Result<(), AllocError>
-        ensures { OnOk result (self.new ≡ with_bytes form name.now bytes.items (dump_of bytes.items) self.old) }
+        ensures { OnOk result (self.new ≡ with_file_bytes form name.now bytes.items (dump_of bytes.items) self.old) }
     {
         let mut dump = Dump::from_image(self.alloc, Image::zeroed(self.alloc)?);
         match refill_from(&mut dump, self.alloc, &bytes) {
@@ -108,7 +108,7 @@ impl Readings {
         name: &[u8],
         contents: Result<Vec<u8>, Option<Reason>>,
     ) -> Result<(), AllocError>
-        ensures { OnOk result (self.new ≡ with_file form name.now (contents_by (λ bytes. bytes.items) contents) self.old) }
+        ensures { OnOk result (self.new ≡ with_read_file form name.now (contents_by (λ bytes. bytes.items) contents) self.old) }
     {
         match contents {
             Ok(bytes) => self.add_bytes(form, name, bytes),

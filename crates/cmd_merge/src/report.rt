@@ -3,7 +3,7 @@ ghost use Rattle.std.specs.Prelude.{◌≡◌, ◌++◌, map, option_map, string
 ghost use Rattle.d64_merge.specs.Merged.{choices, merged_tracks, keeps_codes};
 ghost use Rattle.d64_merge.specs.Left.{left};
 ghost use Rattle.program_arguments.specs.declared.jobs.DiffForm.TheVariants.{Text as as_text, Json as as_json};
-ghost use Rattle.cmd_merge.specs.Reports.{choices_of, left_of, report_by, report_of, verdict_on};
+ghost use Rattle.cmd_merge.specs.Reports.{choices_of, left_of, report_by, report_of, merge_verdict};
 
 use crate::lines::push_report;
 use crate::objects::{Summary, choice_lines, summary_json};
@@ -40,7 +40,7 @@ pub(crate) fn plan_of(alloc: Global, setup: &Setup, readings: &Readings) -> Resu
 /// Returns the verdict on the blocks: amiss if one is lost, taken from the first good copy, or in
 /// conflict, and else clean.
 pub(crate) fn verdict_on(list: &[Choice]) -> Verdict
-    ensures { result ≡ verdict_on list.now }
+    ensures { result ≡ merge_verdict list.now }
 {
     let lost = count_of(Outcome::Lost, list);
     let first = count_of(Outcome::First, list);

@@ -21,9 +21,9 @@ pub struct Setup {
 
 impl Model for Setup {
     ghost use Rattle.std.specs.Prelude.{map, string_bytes};
-    ghost use Rattle.cmd_merge.specs.Setup.{SetupView};
+    ghost use Rattle.cmd_merge.specs.Setup.{MergeSetupView};
 
-    ghost Value = { SetupView };
+    ghost Value = { MergeSetupView };
 
     ghost view = { λ setup. record {
       out = string_bytes setup.out;

@@ -6,7 +6,7 @@ use Rattle.host_storage.specs.Files.{Files}
 use Rattle.host_storage.specs.Host.{Fetches, Opens, IsOfDeviceOrMemory}
 use Rattle.host_storage.specs.declared.host.HostFault.{HostFault}
 use Rattle.host_storage.specs.declared.host.HostFault.TheVariants.{Missing, Device, TooLong, Memory}
-use Rattle.d64_undo.specs.ResumeFault.{first_fault, told_by}
+use Rattle.d64_undo.specs.ResumeFault.{first_resume_fault, reported_by}
 use Rattle.d64_undo.specs.declared.resume_fault.ResumeFault.{ResumeFault}
 use Rattle.d64_undo.specs.declared.resume_fault.ResumeFault.TheVariants as resumes
 use Rattle.cmd_shell.specs.ShellRuns.{GivesNoSession}
@@ -49,7 +49,7 @@ fetches_failed (Some all) name limit Device failed = tt
 fetches_failed (Some all) name limit (Memory error) failed = tt
 
 -- bytes that are refused give no session
-pub gives_none : (fault : ResumeFault) (bytes : List ℕ) → told_by fault (first_fault bytes) ≡ first_fault bytes → GivesNoSession (Ok bytes) (fault_of_resume fault)
+pub gives_none : (fault : ResumeFault) (bytes : List ℕ) → reported_by fault (first_resume_fault bytes) ≡ first_resume_fault bytes → GivesNoSession (Ok bytes) (fault_of_resume fault)
 gives_none resumes.NotSession bytes reported = inl (resumes.NotSession, sym reported, refl)
 gives_none resumes.Truncated bytes reported = inl (resumes.Truncated, sym reported, refl)
 gives_none resumes.Trailing bytes reported = inl (resumes.Trailing, sym reported, refl)

@@ -9,7 +9,7 @@ use Rattle.script_text.specs.Script.{script_limit}
 use Rattle.host_storage.specs.Files.{HostState}
 use Rattle.d64_undo.specs.History.{History}
 use Rattle.cmd_shell.specs.Beginnings.{Beginning, Blank, ImageFile, SessionFile, Source, Input, Given, home_of}
-use Rattle.cmd_shell.specs.ShellRuns.{GivesNoImage, GivesNoSession, HasNoHistory, HasNoText, IsDue, IsFirstHistory, IsReadDue, RanFrom, RanShell, IsReportedAs, StoppedBy}
+use Rattle.cmd_shell.specs.ShellRuns.{GivesNoImage, GivesNoSession, HasNoHistory, HasNoText, IsDue, IsFirstHistory, IsReadDue, RanFrom, RanShell, IsRunReportedAs, StoppedBy}
 use Rattle.program_console.specs.Outside.{Outside, outside_of}
 use Rattle.program_exit.specs.Faults.{fault_of_file, fault_of_resume, fault_of_run}
 use Rattle.program_exit.specs.declared.program_fault.ProgramFault.{ProgramFault}
@@ -113,7 +113,7 @@ RanShell-flushed old new ended beginning source from options at host first last 
 }
 
 -- however a run ended, a flush that fails is reported as a write fault
-pub reported_of-write : (ended : Result Outcome ShellFault) → IsReportedAs ended faults.Write
+pub reported_of-write : (ended : Result Outcome ShellFault) → IsRunReportedAs ended faults.Write
 reported_of-write (Ok outcome) = refl
 reported_of-write (Err fault) = inr refl
 

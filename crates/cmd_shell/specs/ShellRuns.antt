@@ -9,7 +9,7 @@ use Rattle.d64_image.specs.Image.{IsImage, bytes_of, count_of_tracks, is_image_l
 use Rattle.d64_image.specs.declared.image.TheConstants.{BLOCK_BYTES}
 use Rattle.script_commands.specs.Act.{FetchesFile}
 use Rattle.d64_undo.specs.History.{History, new_history}
-use Rattle.d64_undo.specs.ResumeFault.{first_fault}
+use Rattle.d64_undo.specs.ResumeFault.{first_resume_fault}
 use Rattle.d64_undo.specs.SessionFile.{IsSession, file_of}
 use Rattle.d64_undo.specs.declared.resume_fault.ResumeFault.{ResumeFault}
 use Rattle.script_run.specs.Runner.{Ran, ScriptState}
@@ -60,8 +60,8 @@ HasNotBegun old new = (new.reader ≡ old.reader) × Keeps old.output.contents n
 
 -- the exit status of a script that ran to its end: 0 if all of its lines were accepted, and
 -- otherwise 1
-abbrev pub status_of : Outcome → ℕ
-status_of outcome = if outcome.refused == 0 then 0 else 1
+abbrev pub outcome_status : Outcome → ℕ
+outcome_status outcome = if outcome.refused == 0 then 0 else 1
 
 -- why a host file that was fetched with this result gives no image: the fetch failed, the length is
 -- wrong, or memory ran out
@@ -73,7 +73,7 @@ GivesNoImage (Ok bytes) reported = ((reported ≡ WrongLength (length bytes)) ×
 -- are not a session, of which the first fault is reported, or memory ran out
 abbrev pub GivesNoSession : Result (List ℕ) HostFault → ProgramFault → Type 0
 GivesNoSession (Err fault) reported = reported ≡ fault_of_file UnreadableSession fault
-GivesNoSession (Ok bytes) reported = ((fault : ResumeFault) × (first_fault bytes ≡ Some fault) × (reported ≡ fault_of_resume fault)) ⊎ (reported ≡ Memory)
+GivesNoSession (Ok bytes) reported = ((fault : ResumeFault) × (first_resume_fault bytes ≡ Some fault) × (reported ≡ fault_of_resume fault)) ⊎ (reported ≡ Memory)
 
 -- why there is no session to begin with, and the state of the host then
 abbrev pub HasNoHistory : ProgramFault → HostState → Beginning → HostState → Type 0
@@ -93,16 +93,16 @@ HasNoText fault (Given text) old new = (fault ≡ Memory) × (new ≡ record old
 
 -- why a run that ended with this result is reported as this fault: the fault stopped it, or the
 -- output takes no more bytes
-abbrev pub IsReportedAs : Result Outcome ShellFault → ProgramFault → Type 0
-IsReportedAs (Ok outcome) reported = reported ≡ Write
-IsReportedAs (Err fault) reported = (reported ≡ fault_of_run fault) ⊎ (reported ≡ Write)
+abbrev pub IsRunReportedAs : Result Outcome ShellFault → ProgramFault → Type 0
+IsRunReportedAs (Ok outcome) reported = reported ≡ Write
+IsRunReportedAs (Err fault) reported = (reported ≡ fault_of_run fault) ⊎ (reported ≡ Write)
 
 -- what a reported fault says of the run: no line has run, since there is no text or no session; or
 -- the script has run until this fault
 abbrev pub StoppedBy : ProgramFault → Beginning → Source → RunOptions → Outside → Outside → Type 0
 StoppedBy fault beginning source options old new =
     HasNoText fault source old new ⊎ (HasNotBegunFor fault beginning old new
-    ⊎ ((ended : Result Outcome ShellFault) × RanShell beginning source options old new ended × IsReportedAs ended fault))
+    ⊎ ((ended : Result Outcome ShellFault) × RanShell beginning source options old new ended × IsRunReportedAs ended fault))
 
 -- a fault of reading is due: the input cannot be read to its end, or the arguments give more than a
 -- script may have
@@ -119,5 +119,5 @@ IsDue other source new = ⊤
 -- how the shell ended: the script ran to its end, and no fault is reported; or a fault stopped it
 abbrev pub EndedShell : Beginning → Source → RunOptions → Outside → Outside → ℕ → Type 0
 EndedShell beginning source options old new status =
-    ((outcome : Outcome) × RanShell beginning source options old new (Ok outcome) × (status ≡ status_of outcome) × (new.error ≡ old.error))
+    ((outcome : Outcome) × RanShell beginning source options old new (Ok outcome) × (status ≡ outcome_status outcome) × (new.error ≡ old.error))
     ⊎ ((fault : ProgramFault) × StoppedBy fault beginning source options old new × IsDue fault source new × Reports fault old.error new.error status)

@@ -8,7 +8,7 @@ ghost use Rattle.script_commands.specs.Act.{FetchesFile, world_of};
 ghost use Rattle.script_run.specs.Runner.{options_of, script_state};
 ghost use Rattle.cmd_shell.specs.Beginnings.{Given, beginning_of, refusals_of, source_by, source_of, text_of_lines};
 ghost use Rattle.cmd_shell.specs.Scripts.{beginning_in, options_in, source_in};
-ghost use Rattle.cmd_shell.specs.ShellRuns.{IsDue, IsFirstHistory, IsReadDue, HasNoHistory, GivesNoImage, GivesNoSession, RanFrom, RanShell, StoppedBy, blank_image, session_limit, status_of};
+ghost use Rattle.cmd_shell.specs.ShellRuns.{IsDue, IsFirstHistory, IsReadDue, HasNoHistory, GivesNoImage, GivesNoSession, RanFrom, RanShell, StoppedBy, blank_image, session_limit, outcome_status};
 ghost use Rattle.program_batch.specs.Runs.{file_limit};
 ghost use Rattle.program_console.specs.Console.{IsDelivered, IsFresh, SameStreams};
 ghost use Rattle.program_console.specs.Outside.{outside_at};
@@ -306,7 +306,7 @@ pub fn refusals_of(stops: bool) -> Refusals
 
 /// Returns the exit status of a script that ran to its end.
 pub fn exit_status(outcome: Outcome) -> u8
-    ensures { result ≡ status_of outcome }
+    ensures { result ≡ outcome_status outcome }
 {
     if outcome.refused == 0 {
         ALL_ACCEPTED

@@ -35,7 +35,7 @@ use Rattle.d64_effects.proofs.ScratchedDisks.{scratched-is_sound}
 use Rattle.d64_effects.proofs.TypeBytes.{first_pair-typed, size_of-typed, field_of-typed}
 use Rattle.d64_scratched.specs.Scratched.{is_scratched}
 use Rattle.d64_dos.specs.Change.{Delete, Undelete}
-use Rattle.d64_dos.specs.Undelete.{is_scratched_as, chain_of, is_left, slot_to_undelete}
+use Rattle.d64_dos.specs.Undelete.{is_scratched_as, chain_of, is_file_left, slot_to_undelete}
 use Rattle.d64_dos.specs.UndeleteLaws.{UndeletingAddsOneFile, IsOnlyFileOf, BringsBack, UndeletingUndoesDeleting}
 use Rattle.d64_dos.specs.WriteRefusal.{is_writable}
 use Rattle.d64_dos.specs.declared.refusal.Refusal.TheVariants.{Directory}
@@ -146,7 +146,7 @@ module _ (image : List (List ℕ)) (patterns : List (List ℕ)) (name : List ℕ
   some_chain : chain_at (scratched_disk image patterns) (first_pair cleared) ≢ []
   some_chain none = back.0.chain (ap (λ (cell : List ℕ). chain_at (scratched_disk image patterns) (first_pair cell)) cell_is ∙ none)
 
-  still_left : is_left (scratched_disk image patterns) cleared ≡ true
+  still_left : is_file_left (scratched_disk image patterns) cleared ≡ true
   still_left =
       let disk : List (List ℕ) = scratched_disk image patterns in
       let chain_is : chain_left disk slot ≡ chain_of disk cleared = ap (chain_of disk) cell_is in
@@ -192,7 +192,7 @@ module _ (image : List (List ℕ)) (patterns : List (List ℕ)) (name : List ℕ
       ∙ some_back (find (is_whole_as disk name) (numbered_slots (slots disk))) (find (is_left_as disk name) (numbered_slots (slots disk)))
       (some_found (is_left_as disk name) 0 (slots disk) slot there_after
       (ap₂ (λ (n : ℕ) (cell : List ℕ). is_left_as disk name (n, cell)) (let z : 0 + slot ≡ slot = omega arith in z) cell_is
-      ∙ both (is_scratched_as name cleared) (is_left disk cleared) passes still_left))
+      ∙ both (is_scratched_as name cleared) (is_file_left disk cleared) passes still_left))
 
   only_one : (other : ℕ) → IsLeft (scratched_disk image patterns) name other → other ≡ slot
   only_one other left = elim (cases_Bool (eqb other slot)) [

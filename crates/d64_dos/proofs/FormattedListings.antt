@@ -19,7 +19,7 @@ use Rattle.d64_files.specs.DiskHeader.{disk_field, disk_id}
 use Rattle.d64_effects.specs.ViewAfter.{formatted_view}
 use Rattle.d64_effects.proofs.EmptyDisks.{length-parts, blocks_free-formatted_disk, IsBlock-header}
 use Rattle.d64_effects.proofs.FormattedDisks.{part-map_for, unused-formatted_disk, view-formatted_disk}
-use Rattle.d64_dos.specs.Listing.{FormattedDiskLists, row_of}
+use Rattle.d64_dos.specs.Listing.{FormattedDiskLists, listed_row_of}
 use Rattle.d64_dos.proofs.ListedRows.{listing_by_fields}
 
 -- what the view of a formatted disk says of its name and its id
@@ -88,5 +88,5 @@ listed count name id size named two =
     (sym (ap name_in (name_field count size name id named two) ∙ name_in-filled_field name named))
     (sym (id_field count size name id named two))
     (sym (version count size name id named two))
-    (sym (ap (map row_of) (none_used (slots (formatted_disk count name id)) (unused-formatted_disk count size name id))))
+    (sym (ap (map listed_row_of) (none_used (slots (formatted_disk count name id)) (unused-formatted_disk count size name id))))
     (sym (blocks_free-formatted_disk count size name id)))

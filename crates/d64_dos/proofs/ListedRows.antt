@@ -12,7 +12,7 @@ use Rattle.d64_files.specs.Directory.{slots, entry_of, entries, is_named, first_
 use Rattle.d64_files.proofs.Owners.{entries_from}
 use Rattle.d64_files.proofs.SlotLists.{found-entry}
 use Rattle.d64_files.specs.DiskHeader.{disk_field, disk_id}
-use Rattle.d64_dos.specs.Listing.{RowView, row_of, rows_of, listing_of}
+use Rattle.d64_dos.specs.Listing.{RowView, listed_row_of, rows_of, listing_of}
 use Rattle.d64_dos.specs.Reading.{name_at}
 
 -- an entry of a used slot
@@ -20,21 +20,21 @@ abbrev used_entry : EntryView → Bool
 used_entry entry = is_used entry.bytes
 
 -- the rows of entries are those of the slots, from any number on
-rows_from : (image : List (List ℕ)) (n : ℕ) (cells : List (List ℕ)) → rows_of (entries_from image n cells) ≡ map row_of (filter is_used cells)
+rows_from : (image : List (List ℕ)) (n : ℕ) (cells : List (List ℕ)) → rows_of (entries_from image n cells) ≡ map listed_row_of (filter is_used cells)
 rows_from image n [] = refl
 rows_from image n (cell ∷ cells) = by_test (is_used cell) (rows_from image (n + 1) cells)
   where
     rest : List EntryView
     rest = filter used_entry (entries_from image (n + 1) cells)
 
-    by_test : (used : Bool) → map (λ (entry : EntryView). row_of entry.bytes) rest ≡ map row_of (filter is_used cells)
-        → map (λ (entry : EntryView). row_of entry.bytes) (cond used (entry_of image (n, cell) ∷ rest) rest)
-        ≡ map row_of (cond used (cell ∷ filter is_used cells) (filter is_used cells))
-    by_test true same = ap (λ (rows : List RowView). row_of cell ∷ rows) same
+    by_test : (used : Bool) → map (λ (entry : EntryView). listed_row_of entry.bytes) rest ≡ map listed_row_of (filter is_used cells)
+        → map (λ (entry : EntryView). listed_row_of entry.bytes) (cond used (entry_of image (n, cell) ∷ rest) rest)
+        ≡ map listed_row_of (cond used (cell ∷ filter is_used cells) (filter is_used cells))
+    by_test true same = ap (λ (rows : List RowView). listed_row_of cell ∷ rows) same
     by_test false same = same
 
 -- so for all slots of a directory
-pub rows-entries : (image : List (List ℕ)) → rows_of (entries image (slots image)) ≡ map row_of (filter is_used (slots image))
+pub rows-entries : (image : List (List ℕ)) → rows_of (entries image (slots image)) ≡ map listed_row_of (filter is_used (slots image))
 rows-entries image = rows_from image 0 (slots image)
 
 -- an entry among those that are numbered from another one on: its number, and its bytes
@@ -106,7 +106,7 @@ two_bytes bytes place within =
 pub listing_by_fields : (image : List (List ℕ)) (name id dos : List ℕ) (rows : List RowView) (free : ℕ)
     → name ≡ name_in (disk_field image) → id ≡ disk_id image
     → dos ≡ slice_range (sector_at image map_block) 0xA5 0xA7
-    → rows ≡ map row_of (filter is_used (slots image)) → free ≡ blocks_free image
+    → rows ≡ map listed_row_of (filter is_used (slots image)) → free ≡ blocks_free image
     → record { name = name; id = id; dos = dos; rows = rows; free = free } ≡ listing_of image
 unfolding listing_of
 listing_by_fields image name id dos rows free of_name of_id of_dos of_rows of_free = cc

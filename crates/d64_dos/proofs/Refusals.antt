@@ -40,7 +40,7 @@ refused_found image pattern found h e =
     ∙ ap (found_refusal image) (sym e)
 
 -- the cause that a fault of reading has in the image stays as a refusal
-cause_of_fault : (fault : ReadFault) (refusal : Option ReadFault) → files.refused_by {A = List ℕ} (Err fault) ≡ refusal
+cause_of_fault : (fault : ReadFault) (refusal : Option ReadFault) → files.read_refused_by {A = List ℕ} (Err fault) ≡ refusal
     → cause_of (of_read_fault fault) ≡ option_map of_read_fault refusal
 cause_of_fault (faults.Directory fault) refusal e = ap (option_map of_read_fault) e
 cause_of_fault faults.NotFound refusal e = ap (option_map of_read_fault) e
@@ -51,7 +51,7 @@ cause_of_fault (faults.Memory error) refusal e = ap (option_map of_read_fault) e
 -- what keeps the content of the entry that was found from being read keeps its file from it
 pub refused_entry : (image : List (List ℕ)) (pattern : List ℕ) (entry : EntryView) (fault : ReadFault) → AllHold image 2 3
     → Some entry.slot ≡ first_named pattern (slots image) → slice_get (slots image) entry.slot ≡ Some entry.bytes
-    → files.refused_by {A = List ℕ} (Err fault) ≡ file_refusal image entry.bytes → cause_of (of_read_fault fault) ≡ read_refusal image pattern
+    → files.read_refused_by {A = List ℕ} (Err fault) ≡ file_refusal image entry.bytes → cause_of (of_read_fault fault) ≡ read_refusal image pattern
 refused_entry image pattern entry fault h found bytes e =
     cause_of_fault fault (file_refusal image entry.bytes) e
     ∙ ap (λ (cell : Option (List ℕ)). option_map of_read_fault (slot_refusal image cell)) (sym bytes)

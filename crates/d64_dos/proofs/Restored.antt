@@ -22,7 +22,7 @@ use Rattle.d64_effects.specs.Write.{blocks_without}
 use Rattle.d64_scratched.specs.Scratched.{is_scratched, scratched_way}
 use Rattle.d64_survey.proofs.Owning.{chain_is_way}
 use Rattle.d64_dos.specs.Restoring.{is_whole_by, is_left_by, entry_back}
-use Rattle.d64_dos.specs.Undelete.{is_scratched_as, chain_of, is_left, is_claimed, slot_to_undelete, undelete_refusal, disk_with_file_back, view_with_file_back}
+use Rattle.d64_dos.specs.Undelete.{is_scratched_as, chain_of, is_file_left, is_claimed, slot_to_undelete, undelete_refusal, disk_with_file_back, view_with_file_back}
 use Rattle.d64_dos.specs.WriteRefusal.{is_writable}
 use Rattle.d64_dos.specs.declared.refusal.Refusal.TheVariants.{NotFound, Exists, WrongType, Directory, Lost}
 use Rattle.d64_dos.proofs.SameWords.{left_tells, left_same, whole_same}
@@ -80,7 +80,7 @@ found_at test n (c ∷ cells) slot h = by_test (test (n, c)) refl h (found_at te
 pub record IsLeft (image : List (List ℕ)) (name : List ℕ) (slot : ℕ) : Type 0 where
   pub there : slot < length (slots image)
   pub scratched : is_scratched_as name (cell_at image slot) ≡ true
-  pub left : is_left image (cell_at image slot) ≡ true
+  pub left : is_file_left image (cell_at image slot) ≡ true
 
 not_not : (b : Bool) → not b ≡ true → b ≡ false
 not_not true h = absurd (let e : false ≡ true = h in cc)
@@ -88,7 +88,7 @@ not_not false h = refl
 
 -- the tests by which a slot is chosen
 abbrev pub is_left_as : List (List ℕ) → List ℕ → ℕ × List ℕ → Bool
-is_left_as image name slot = is_scratched_as name slot.1 && is_left image slot.1
+is_left_as image name slot = is_scratched_as name slot.1 && is_file_left image slot.1
 
 abbrev pub is_unclaimed : List (List ℕ) → ℕ × List ℕ → Bool
 is_unclaimed image slot = not (list_any (is_claimed image slot.0) (chain_of image slot.1))
@@ -130,11 +130,11 @@ left_by image name test slot tells found =
     let at = found_at test 0 (slots image) slot found in
     let there : slot.0 < 0 + length (slots image) = at.there in
     let is : slot.1 ≡ cell_at image slot.0 = sym at.cell ∙ ap (λ (k : ℕ). get_or (slots image) k []) (let z : slot.0 - 0 ≡ slot.0 = omega arith in z) in
-    let told = and_parts (is_scratched_as name slot.1) (is_left image slot.1) (tells slot at.passes) in
+    let told = and_parts (is_scratched_as name slot.1) (is_file_left image slot.1) (tells slot at.passes) in
     record {
       there = omega arith;
       scratched = ap (is_scratched_as name) (sym is) ∙ told.0;
-      left = ap (is_left image) (sym is) ∙ told.1;
+      left = ap (is_file_left image) (sym is) ∙ told.1;
     }
 
 -- the slot that is chosen
@@ -216,7 +216,7 @@ left_test image name sound = λ i slot. is_scratched_as name slot.1 && left_same
 whole_test : (image : List (List ℕ)) (name : List ℕ) → IsSound image → is_whole_by image name ≡ is_whole_as image name
 whole_test image name sound =
     λ i slot. (ap (λ (b : Bool). is_scratched_as name slot.1 && b) (whole_same image slot.0 slot.1 sound)
-    ∙ and_assoc (is_scratched_as name slot.1) (is_left image slot.1) (is_unclaimed image slot)) i
+    ∙ and_assoc (is_scratched_as name slot.1) (is_file_left image slot.1) (is_unclaimed image slot)) i
   where
     and_assoc : (a b c : Bool) → (a && (b && c)) ≡ ((a && b) && c)
     and_assoc true b c = refl

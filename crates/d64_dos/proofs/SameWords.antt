@@ -19,7 +19,7 @@ use Rattle.d64_files.proofs.Chains.{begins, chain_before, leads_to, block_in-wit
 use Rattle.d64_effects.specs.View.{IsSound}
 use Rattle.d64_effects.proofs.Occurrences.{occurs-present}
 use Rattle.d64_effects.proofs.TakenBlocks.{free_not_owned}
-use Rattle.d64_scratched.specs.Scratched.{is_scratched, scratched_way, blocks_left, is_claimed_below, is_missized, where_lost, losses, is_lost}
+use Rattle.d64_scratched.specs.Scratched.{is_scratched, scratched_way, blocks_left, is_claimed_below, is_scratched_missized, where_lost, losses, is_lost}
 use Rattle.d64_scratched.specs.declared.loss.Loss.{Loss}
 use Rattle.d64_scratched.specs.declared.loss.Loss.TheVariants.{Chain as BrokenChain, Reused, Marked, Size, Claimed, Unreadable}
 use Rattle.d64_scratched.proofs.NotLost.{not_lost-restored}
@@ -32,7 +32,7 @@ use Rattle.d64_survey.proofs.FaultOrder.{owned_among}
 use Rattle.d64_survey.proofs.Owning.{chain_is_way, owned_are, slots_are}
 use Rattle.d64_survey.proofs.Steps.{off, loops, fresh_step, ends, goes_on}
 use Rattle.d64_survey.proofs.Told.{bounded}
-use Rattle.d64_dos.specs.Undelete.{chain_of, is_left, is_claimed}
+use Rattle.d64_dos.specs.Undelete.{chain_of, is_file_left, is_claimed}
 
 -- from each block of a chain there is one
 chain_within : (image : List (List ℕ)) (start : ℕ) (blocks : List ℕ) → Chain image start blocks → (q : ℕ) → list_any (eqb q) blocks ≡ true
@@ -169,7 +169,7 @@ count_blocks : (blocks : List ℕ) → blocks ≢ [] → nat_lt 0 (length blocks
 count_blocks [] some = absurd (some refl)
 count_blocks (block ∷ blocks) some = grind (arith, nat_tests)
 
-pub left_tells : (image : List (List ℕ)) (cell : List ℕ) → is_left image cell ≡ true → Left image cell
+pub left_tells : (image : List (List ℕ)) (cell : List ℕ) → is_file_left image cell ≡ true → Left image cell
 left_tells image cell h =
     let blocks : List ℕ = chain_of image cell in
     let first = and_parts (nat_lt 0 (length blocks)) (list_all (set.contains (free_blocks image)) blocks && length blocks == size_of cell) h in
@@ -180,7 +180,7 @@ left_tells image cell h =
       size = eqb-true (length blocks) (size_of cell) rest.1;
     }
 
-pub is_left_so : (image : List (List ℕ)) (cell : List ℕ) → Left image cell → is_left image cell ≡ true
+pub is_left_so : (image : List (List ℕ)) (cell : List ℕ) → Left image cell → is_file_left image cell ≡ true
 is_left_so image cell left =
     ap₂ (λ (a b : Bool). a && b) (count_blocks (chain_of image cell) left.some)
     (ap₂ (λ (a b : Bool). a && b) (pass_all (set.contains (free_blocks image)) (chain_of image cell) left.free) (eq-eqb (length (chain_of image cell)) (size_of cell) left.size))
@@ -223,7 +223,7 @@ not_lost image slot cell sound left =
     let is : chain_of image cell ≡ walked.0 = chain_is_way image (first_pair cell) left.some in
     let end : walked.1 ≡ End = (bounded image (first_pair cell)).end left.some in
     let all : All (λ block. set.contains (free_blocks image) block ≡ true) walked.0 = subst (All (λ block. set.contains (free_blocks image) block ≡ true)) is left.free in
-    not_lost_by (not (is_whole walked.1)) (list_any (is_owned image) walked.0) (list_any (is_unowned image) walked.0) (is_missized cell walked)
+    not_lost_by (not (is_whole walked.1)) (list_any (is_owned image) walked.0) (list_any (is_unowned image) walked.0) (is_scratched_missized cell walked)
     (list_any (is_claimed_below image slot) walked.0) (any_unreadable None walked.0)
     (ap (λ (e : WayEnd). not (is_whole e)) end)
     (list_any_none (is_owned image) walked.0 (All-weaker (λ block. set.contains (free_blocks image) block ≡ true) (λ block. is_owned image block ≡ false) (λ q h. free_unowned image sound q h) walked.0 all))
@@ -232,12 +232,12 @@ not_lost image slot cell sound left =
     (right_size (is_whole walked.1) (length walked.0) (size_of cell) (sym (ap length is) ∙ left.size))
 
 -- it is left if and only if it isn't lost
-pub left_same : (image : List (List ℕ)) (slot : ℕ) (cell : List ℕ) → IsSound image → not (is_lost (losses image None slot cell)) ≡ is_left image cell
+pub left_same : (image : List (List ℕ)) (slot : ℕ) (cell : List ℕ) → IsSound image → not (is_lost (losses image None slot cell)) ≡ is_file_left image cell
 left_same image slot cell sound =
     elim (cases_Bool (is_lost (losses image None slot cell))) [
       | inl t ↦
           ap not t
-          ∙ sym (elim (cases_Bool (is_left image cell)) [
+          ∙ sym (elim (cases_Bool (is_file_left image cell)) [
             | inl l ↦ absurd (let e : true ≡ false = sym t ∙ not_lost image slot cell sound (left_tells image cell l) in cc)
             | inr f ↦ f
           ])
@@ -293,7 +293,7 @@ claims_same image slot cell sound some =
 
 -- and it is whole if and only if it is left and no block is claimed
 pub whole_same : (image : List (List ℕ)) (slot : ℕ) (cell : List ℕ) → IsSound image
-    → (length (losses image None slot cell) == 0) ≡ (is_left image cell && not (list_any (is_claimed image slot) (chain_of image cell)))
+    → (length (losses image None slot cell) == 0) ≡ (is_file_left image cell && not (list_any (is_claimed image slot) (chain_of image cell)))
 unfolding losses
 whole_same image slot cell sound =
     let walked = scratched_way image cell in
@@ -303,8 +303,8 @@ whole_same image slot cell sound =
           lost_some (losses image None slot cell) t
           ∙ sym (ap (λ (b : Bool). b && not (list_any (is_claimed image slot) (chain_of image cell))) (sym same ∙ ap not t))
       | inr f ↦
-          let left : is_left image cell ≡ true = sym same ∙ ap not f in
-          only_claimed (not (is_whole walked.1)) (list_any (is_owned image) walked.0) (list_any (is_unowned image) walked.0) (is_missized cell walked)
+          let left : is_file_left image cell ≡ true = sym same ∙ ap not f in
+          only_claimed (not (is_whole walked.1)) (list_any (is_owned image) walked.0) (list_any (is_unowned image) walked.0) (is_scratched_missized cell walked)
           (list_any (is_claimed_below image slot) walked.0) (any_unreadable None walked.0) f (readable walked.0)
           ∙ ap not (claims_same image slot cell sound (left_tells image cell left).some)
           ∙ sym (ap (λ (b : Bool). b && not (list_any (is_claimed image slot) (chain_of image cell))) left)

@@ -31,12 +31,12 @@ pub record ListingView : Type 0 where
   pub free : ℕ
 
 -- the row of a slot
-abbrev pub row_of : Bytes → RowView
-row_of cell = record { blocks = size_of cell; name = name_of cell; closed = is_closed cell; kind = kind_of cell; locked = is_locked cell }
+abbrev pub listed_row_of : Bytes → RowView
+listed_row_of cell = record { blocks = size_of cell; name = name_of cell; closed = is_closed cell; kind = kind_of cell; locked = is_locked cell }
 
 -- the rows of the used entries
 abbrev pub rows_of : List EntryView → List RowView
-rows_of walk = map (λ (entry : EntryView). row_of entry.bytes) (filter (λ (entry : EntryView). is_used entry.bytes) walk)
+rows_of walk = map (λ (entry : EntryView). listed_row_of entry.bytes) (filter (λ (entry : EntryView). is_used entry.bytes) walk)
 
 -- the list of an image's directory
 unfoldable pub listing_of : Disk → ListingView
@@ -44,7 +44,7 @@ listing_of image = record {
   name = name_in (disk_field image);
   id = disk_id image;
   dos = slice_range (sector_at image map_block) 0xA5 0xA7;
-  rows = map row_of (filter is_used (slots image));
+  rows = map listed_row_of (filter is_used (slots image));
   free = blocks_free image;
 }
 

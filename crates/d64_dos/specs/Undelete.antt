@@ -27,8 +27,8 @@ abbrev pub chain_of : Disk → Bytes → Blocks
 chain_of image cell = chain_at image (first_pair cell)
 
 -- the file of a slot isn't lost: there is a chain of free blocks, as many as the slot shows
-abbrev pub is_left : Disk → Bytes → Bool
-is_left image cell =
+abbrev pub is_file_left : Disk → Bytes → Bool
+is_file_left image cell =
     nat_lt 0 (length (chain_of image cell))
     && (list_all (set.contains (free_blocks image)) (chain_of image cell) && length (chain_of image cell) == size_of cell)
 
@@ -40,7 +40,7 @@ is_claimed image slot block = list_any (λ cell. is_scratched cell && list_any (
 -- first whose file isn't lost; None if all are lost
 unfoldable pub slot_to_undelete : Disk → Bytes → Option ℕ
 slot_to_undelete image name =
-    let left = filter (λ slot. is_scratched_as name slot.1 && is_left image slot.1) (numbered_slots (slots image)) in
+    let left = filter (λ slot. is_scratched_as name slot.1 && is_file_left image slot.1) (numbered_slots (slots image)) in
     option_map (λ slot. slot.0) (option_or (find (λ slot. not (list_any (is_claimed image slot.0) (chain_of image slot.1))) left) (slice_get left 0))
 
 -- the first refusal that applies

@@ -17,7 +17,7 @@ use Rattle.d64_effects.specs.ViewAfter.{file_back}
 use Rattle.d64_dos.specs.Change.{Change, Delete, Undelete}
 use Rattle.d64_dos.specs.Command.{image_after, refusal_of}
 use Rattle.d64_scratched.specs.Scratched.{losses, is_lost}
-use Rattle.d64_dos.specs.Undelete.{is_scratched_as, chain_of, is_left, is_claimed, slot_to_undelete}
+use Rattle.d64_dos.specs.Undelete.{is_scratched_as, chain_of, is_file_left, is_claimed, slot_to_undelete}
 
 -- the second image has one file more than the first: the one that was left in a slot that wasn't
 -- used; each other file keeps its slot, its chain and its content
@@ -63,5 +63,5 @@ abbrev pub ReasonsDecide : Type 0
 ReasonsDecide =
     (image : Disk) (slot : ℕ) (cell : Bytes)
     → IsSound image
-    → (not (is_lost (losses image None slot cell)) ≡ is_left image cell)
-    × ((length (losses image None slot cell) == 0) ≡ (is_left image cell && not (list_any (is_claimed image slot) (chain_of image cell))))
+    → (not (is_lost (losses image None slot cell)) ≡ is_file_left image cell)
+    × ((length (losses image None slot cell) == 0) ≡ (is_file_left image cell && not (list_any (is_claimed image slot) (chain_of image cell))))

@@ -1,6 +1,6 @@
 //! The rows of a directory, and the listing that they make up.
 ghost use Rattle.std.specs.Prelude.{◌≡◌, IfOk, map};
-ghost use Rattle.d64_dos.specs.Listing.{row_of, rows_of, shown_row};
+ghost use Rattle.d64_dos.specs.Listing.{listed_row_of, rows_of, shown_row};
 
 use d64_files::{Entry, Kind, Slots};
 use std::alloc::{AllocError, Global};
@@ -37,7 +37,7 @@ pub struct Listing {
 
 /// The row of an entry.
 fn row_of(alloc: Global, entry: &Entry) -> Result<Row, AllocError>
-    ensures { IfOk result (λ row. shown_row row ≡ row_of entry.now.bytes) }
+    ensures { IfOk result (λ row. shown_row row ≡ listed_row_of entry.now.bytes) }
 {
     Ok(Row {
         blocks: entry.blocks(),

@@ -8,7 +8,7 @@ use Rattle.std.proofs.lemmas.List.Elements.{All-weaker}
 use Rattle.d64_image.specs.Block.{pair_at}
 use Rattle.d64_image.specs.BlockSet.{MembersAreBelow}
 use Rattle.d64_image.specs.Image.{IsImage, tracks_of, sector_at}
-use Rattle.d64_map.specs.Map.{map_block, entry_of, bit_in, is_free, free_blocks, map_for, with_map, CountsFit}
+use Rattle.d64_map.specs.Map.{map_block, map_entry_place, bit_in, is_free, free_blocks, map_for, with_map, CountsFit}
 use Rattle.d64_map.specs.Track.{members_on}
 use Rattle.d64_map.proofs.Maps.{sector_at-with_map, sector_at-with_map-other, length-with_map, free_blocks-with_map, counts-with_map, IsImage-with_map}
 use Rattle.d64_files.specs.Directory.{directory, slots, slots_in, owned_blocks}
@@ -61,7 +61,7 @@ same_map image one cells changed apart fit =
       long = changed.long;
       counts = record {
         each = λ track from to.
-            ap (λ (bytes : List ℕ). get_or bytes (entry_of track) 0) e ∙ fit.each track from (subst (λ (n : ℕ). track ≤ tracks_of n) changed.long to)
+            ap (λ (bytes : List ℕ). get_or bytes (map_entry_place track) 0) e ∙ fit.each track from (subst (λ (n : ℕ). track ≤ tracks_of n) changed.long to)
             ∙ ap (λ (members : set.FinSet nat_cmp). members_on members track) (sym free);
       };
       marked = free;

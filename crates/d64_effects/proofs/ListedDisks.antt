@@ -2,7 +2,7 @@
 use Rattle.std.proofs.Common.{ℕ, length, ap, ◌∙◌}
 use Rattle.d64_effects.specs.Contents.{names_and_contents}
 use Rattle.d64_effects.specs.ContentsAfter.{list_with, new_row}
-use Rattle.d64_effects.specs.ContentsLaws.{FormattedDiskLists, WrittenDiskLists, ScratchedDiskLists, RenamedDiskLists, NamedDiskLists, ValidatedDiskLists}
+use Rattle.d64_effects.specs.ContentsLaws.{FormattedDiskHasNoFiles, WrittenDiskLists, ScratchedDiskLists, RenamedDiskLists, NamedDiskLists, ValidatedDiskLists}
 use Rattle.d64_effects.specs.View.{view}
 use Rattle.d64_effects.specs.ViewAfter.{first_vacant}
 use Rattle.d64_effects.proofs.ContentSteps.{formatted-lists_nothing, written-lists_the_file, scratched-lists_the_others, renamed-lists_the_name, named-lists_the_same, validated-lists_the_closed}
@@ -14,7 +14,7 @@ use Rattle.d64_effects.proofs.TakenBlocks.{takes}
 use Rattle.d64_effects.proofs.ValidatedDisks.{validated-shows}
 use Rattle.d64_effects.proofs.WrittenDisks.{written-shows}
 
-pub formatted-disk_lists : FormattedDiskLists
+pub formatted-disk_lists : FormattedDiskHasNoFiles
 formatted-disk_lists count name id size named two = ap names_and_contents (view-formatted_disk count size name id named two) ∙ formatted-lists_nothing count name id
 
 -- a file takes as many blocks as its bytes need

@@ -16,7 +16,7 @@ use Rattle.std.proofs.Math.ListN.{replicate}
 use Rattle.d64_image.specs.Block.{pair_at}
 use Rattle.d64_image.specs.Image.{IsBlock, IsImage, IsSize, tracks_of, sector_at}
 use Rattle.d64_image.proofs.Sizes.{size_least, size_most}
-use Rattle.d64_map.specs.Map.{map_block, entry_of, is_free, free_blocks, CountsFit}
+use Rattle.d64_map.specs.Map.{map_block, map_entry_place, is_free, free_blocks, CountsFit}
 use Rattle.d64_map.specs.Track.{members_on}
 use Rattle.d64_map.proofs.FreeBlocks.{contains-free_blocks, contains-free_blocks-past}
 use Rattle.d64_map.proofs.Maps.{placed_at, sectors_few}
@@ -60,8 +60,8 @@ abbrev IsApart : ℕ → Type 0
 IsApart place = (place < 0x90) ⊎ (0xA4 ≤ place)
 
 -- the entries of the map are apart
-entry_apart : (track part : ℕ) → part < 4 → IsApart (entry_of track + part)
-unfolding entry_of
+entry_apart : (track part : ℕ) → part < 4 → IsApart (map_entry_place track + part)
+unfolding map_entry_place
 entry_apart track part small = by_test (ltb track 36) refl
   where
     by_test : (low : Bool) → ltb track 36 ≡ low → IsApart (cond low (4 * track) (4 * track + 0x30) + part)
@@ -158,10 +158,10 @@ module _ (image : List (List ℕ)) (name : List ℕ) (id : Option (List ℕ)) (i
 
   -- the bytes of the map stay
   byte_kept : (track part : ℕ) → part < 4
-      → get_or (sector_at (named_disk image name id) map_block) (entry_of track + part) 0 ≡ get_or (sector_at image map_block) (entry_of track + part) 0
+      → get_or (sector_at (named_disk image name id) map_block) (map_entry_place track + part) 0 ≡ get_or (sector_at image map_block) (map_entry_place track + part) 0
   byte_kept track part small =
-      ap (λ (bytes : List ℕ). get_or bytes (entry_of track + part) 0) label
-      ∙ labelled-kept (sector_at image map_block) name id whole named two (entry_of track + part) (entry_apart track part small)
+      ap (λ (bytes : List ℕ). get_or bytes (map_entry_place track + part) 0) label
+      ∙ labelled-kept (sector_at image map_block) name id whole named two (map_entry_place track + part) (entry_apart track part small)
 
   is_free-kept : (block : ℕ) → block < length image → is_free (named_disk image name id) block ≡ is_free image block
   unfolding is_free
@@ -172,9 +172,9 @@ module _ (image : List (List ℕ)) (name : List ℕ) (id : Option (List ℕ)) (i
       let sector : ℕ = (pair_at block).1 in
       let few = sectors_few track in
       let held = p.held in
-      let place : entry_of track + 1 + sector / 8 ≡ entry_of track + (1 + sector / 8) = omega arith in
-      let byte : get_or (sector_at (named_disk image name id) map_block) (entry_of track + 1 + sector / 8) 0
-      ≡ get_or (sector_at image map_block) (entry_of track + 1 + sector / 8) 0 =
+      let place : map_entry_place track + 1 + sector / 8 ≡ map_entry_place track + (1 + sector / 8) = omega arith in
+      let byte : get_or (sector_at (named_disk image name id) map_block) (map_entry_place track + 1 + sector / 8) 0
+      ≡ get_or (sector_at image map_block) (map_entry_place track + 1 + sector / 8) 0 =
       ap (λ (k : ℕ). get_or (sector_at (named_disk image name id) map_block) k 0) place
       ∙ byte_kept track (1 + sector / 8) (omega arith)
       ∙ sym (ap (λ (k : ℕ). get_or (sector_at image map_block) k 0) place) in
@@ -192,7 +192,7 @@ module _ (image : List (List ℕ)) (name : List ℕ) (id : Option (List ℕ)) (i
   counts : CountsFit image → CountsFit (named_disk image name id)
   counts fit = record {
     each = λ track from to.
-        let zero_part : entry_of track ≡ entry_of track + 0 = omega arith in
+        let zero_part : map_entry_place track ≡ map_entry_place track + 0 = omega arith in
         ap (λ (k : ℕ). get_or (sector_at (named_disk image name id) map_block) k 0) zero_part
         ∙ byte_kept track 0 (omega arith)
         ∙ sym (ap (λ (k : ℕ). get_or (sector_at image map_block) k 0) zero_part)

@@ -18,7 +18,7 @@ use Rattle.d64_effects.specs.Laws.{ValidatedIsImage, ValidatedIsSound, Validated
 use Rattle.d64_effects.specs.Validate.{is_unclosed, unclosed_slots, all_but, validated_disk}
 use Rattle.d64_effects.specs.View.{FileView, IsSound, view}
 use Rattle.d64_files.specs.DiskHeader.{disk_field, disk_id}
-use Rattle.d64_effects.specs.ViewAfter.{validated_view, blocks_owned}
+use Rattle.d64_effects.specs.ViewAfter.{validated_view, view_blocks_owned}
 use Rattle.d64_effects.proofs.AlteredDisks.{Altered, remapped, map_not_listed, held_by, sound_after, view_after}
 use Rattle.d64_effects.proofs.CellFields.{HasKind-unused, HasItsChains-unused}
 use Rattle.d64_effects.proofs.ClearedDisks.{is_used-cleared, All-cleared, occurs-cleared, shown-cleared, blocks-owned}
@@ -84,7 +84,7 @@ module _ (image : List (List ℕ)) (is : IsImage image) (accepted : AllHold imag
       sound_after image (validated_disk image) (cells_left image) (all_but (length image) (owned_blocks image)) is some distinct left chains fewer
       kinds_known unfree
 
-  same_owned : owned_blocks image ≡ blocks_owned (view image)
+  same_owned : owned_blocks image ≡ view_blocks_owned (view image)
   unfolding owned_blocks view
   same_owned = ap (λ (files : List ℕ). map_block ∷ (directory image ++ files)) (sym (blocks-owned image (slots image)))
 

@@ -3,7 +3,7 @@
 use Rattle.std.specs.Prelude.{ℕ, true, false, if◌then◌else◌, List, [], ◌∷◌, ◌++◌, take, drop, bytes_eq, Bool, Option, Some, None}
 use Rattle.d64_image.specs.Disk.{Bytes}
 use Rattle.d64_effects.specs.Contents.{ListedFile}
-use Rattle.d64_effects.specs.Delete.{is_scratched}
+use Rattle.d64_effects.specs.Delete.{is_deleted_by}
 use Rattle.d64_files.specs.declared.kind.Kind.{Kind}
 
 -- a list with a new file: at the place of the first empty slot, before which all are used, or else
@@ -18,7 +18,7 @@ new_row name kind bytes blocks = record { name = name; kind = kind; closed = tru
 
 -- whether patterns delete a file of the list
 abbrev pub is_scratched_row : List Bytes → ListedFile → Bool
-is_scratched_row patterns row = is_scratched patterns row.closed row.locked row.name
+is_scratched_row patterns row = is_deleted_by patterns row.closed row.locked row.name
 
 -- a file of the list with another name
 abbrev pub row_named : ListedFile → Bytes → ListedFile

@@ -57,8 +57,8 @@ abbrev pub files_of : Disk → List ListedFile
 files_of image = names_and_contents (view image)
 
 -- a formatted disk lists nothing
-abbrev pub FormattedDiskLists : Type 0
-FormattedDiskLists =
+abbrev pub FormattedDiskHasNoFiles : Type 0
+FormattedDiskHasNoFiles =
     (count : ℕ) (name id : Bytes) → IsSize count → IsName name → AreTwoBytes id → files_of (formatted_disk count name id) ≡ []
 
 -- a sound disk with a new file lists that file, of as many blocks as its bytes need, beside the

@@ -10,12 +10,12 @@ use Rattle.d64_effects.specs.Clear.{slots_where, with_cleared, with_freed}
 
 -- whether patterns delete a file with these flags and this name: it is closed and not locked, and
 -- at least one pattern matches it
-abbrev pub is_scratched : List Bytes → Bool → Bool → Bytes → Bool
-is_scratched patterns closed locked name = closed && (not locked && list_any (λ pattern. matches pattern name) patterns)
+abbrev pub is_deleted_by : List Bytes → Bool → Bool → Bytes → Bool
+is_deleted_by patterns closed locked name = closed && (not locked && list_any (λ pattern. matches pattern name) patterns)
 
 -- whether patterns delete the file of a slot, which must be used
 abbrev pub is_scratched_slot : List Bytes → Bytes → Bool
-is_scratched_slot patterns cell = is_used cell && is_scratched patterns (is_closed cell) (is_locked cell) (name_of cell)
+is_scratched_slot patterns cell = is_used cell && is_deleted_by patterns (is_closed cell) (is_locked cell) (name_of cell)
 
 -- the numbers of the slots whose files patterns delete, each once, whether one pattern matches or
 -- several

@@ -7,7 +7,7 @@ use Rattle.d64_files.specs.FileData.{data_along}
 use Rattle.d64_files.specs.Name.{filled_field, name_in}
 use Rattle.d64_files.specs.Slot.{field_of, size_of}
 use Rattle.d64_effects.specs.Clear.{with_freed}
-use Rattle.d64_effects.specs.Delete.{is_scratched}
+use Rattle.d64_effects.specs.Delete.{is_deleted_by}
 use Rattle.d64_effects.specs.Format.{directory_start, free_when_formatted}
 use Rattle.d64_effects.specs.Undelete.{cell_at, chain_left}
 use Rattle.d64_effects.specs.View.{View, FileView}
@@ -85,7 +85,7 @@ blocks_if goes (Some file) = if goes file then file.blocks ++ file.side_blocks e
 
 -- whether patterns delete a file
 abbrev pub is_scratched_file : List Bytes → FileView → Bool
-is_scratched_file patterns file = is_scratched patterns file.closed file.locked (name_in file.field)
+is_scratched_file patterns file = is_deleted_by patterns file.closed file.locked (name_in file.field)
 
 -- the view after the files are deleted that patterns match: their slots are unused, and their
 -- blocks are free
@@ -136,13 +136,13 @@ undeleted_view image old slot kind = record old {
 }
 
 -- the blocks that a disk owns: the map's, the directory's, and those of its files
-abbrev pub blocks_owned : View → Blocks
-blocks_owned shown = map_block ∷ (shown.directory ++ flat_map (blocks_if (λ file. true)) shown.slots)
+abbrev pub view_blocks_owned : View → Blocks
+view_blocks_owned shown = map_block ∷ (shown.directory ++ flat_map (blocks_if (λ file. true)) shown.slots)
 
 -- the view after a validation: the slots of unclosed files are unused, and exactly the blocks are
 -- free that have no owner
 unfoldable pub validated_view : View → View
 validated_view old = record old {
   slots = map (emptied_if (λ file. not file.closed)) old.slots;
-  free = all_but old.count (blocks_owned old);
+  free = all_but old.count (view_blocks_owned old);
 }

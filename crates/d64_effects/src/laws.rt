@@ -15,7 +15,7 @@ ghost use Rattle.d64_effects.specs.ClearLaws.{OneMoreSlotCounts, SlotsWhereAreSl
 ghost use Rattle.d64_effects.specs.KeepingLaws.{WritingKeepsFiles, DeletingKeepsOtherFiles, RenamingKeepsOtherFiles, NamingKeepsFiles, ValidatingKeepsClosedFiles, UndeletingKeepsFiles};
 ghost use Rattle.d64_effects.specs.ContentsLaws.{FormattedListsNothing, WrittenListsTheFile, ScratchedListsTheOthers};
 ghost use Rattle.d64_effects.specs.ContentsLaws.{RenamedListsTheName, NamedListsTheSame, ValidatedListsTheClosed};
-ghost use Rattle.d64_effects.specs.ContentsLaws.{FormattedDiskLists, WrittenDiskLists, ScratchedDiskLists, RenamedDiskLists, NamedDiskLists, ValidatedDiskLists};
+ghost use Rattle.d64_effects.specs.ContentsLaws.{FormattedDiskHasNoFiles, WrittenDiskLists, ScratchedDiskLists, RenamedDiskLists, NamedDiskLists, ValidatedDiskLists};
 
 /// A formatted disk is a sound image with 664 blocks free on 35 tracks, or 749 on 40, which shows
 /// its name and id and no file.
@@ -125,7 +125,7 @@ pub fn steps_change_the_list_of_files()
 /// the closed files are left. The other files of the list stay as they were, in order, and so do
 /// all files when the disk gets a new name.
 pub fn commands_change_the_list_of_files()
-    ensures formatted { FormattedDiskLists }
+    ensures formatted { FormattedDiskHasNoFiles }
     ensures written { WrittenDiskLists }
     ensures scratched { ScratchedDiskLists }
     ensures renamed { RenamedDiskLists }

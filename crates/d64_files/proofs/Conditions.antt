@@ -2,7 +2,7 @@
 use Rattle.std.proofs.Common.{◌≢◌, ℕ, ◌<◌, ◌≤◌, List, [], arith}
 use Rattle.std.specs.Prelude.{All}
 use Rattle.d64_files.specs.Slot.{HasKind}
-use Rattle.d64_files.specs.Directory.{directory, slots, number_of, Holds, AllHold, IsFirstFault}
+use Rattle.d64_files.specs.Directory.{directory, slots, condition_number, Holds, AllHold, IsFirstFault}
 use Rattle.d64_files.specs.declared.dir_fault.DirFault.{DirFault}
 use Rattle.d64_files.specs.declared.dir_fault.DirFault.TheVariants.{WrongCounts, NoDirectory, UnknownKind, NoChain, CrossLinked, MarkedFree}
 
@@ -16,7 +16,7 @@ both_hold image exists kinds CrossLinked from to = absurd (omega arith)
 both_hold image exists kinds MarkedFree from to = absurd (omega arith)
 
 -- no condition comes before the second
-none_before : (image : List (List ℕ)) (other : DirFault) → 2 ≤ number_of other → number_of other < 2 → Holds image other
+none_before : (image : List (List ℕ)) (other : DirFault) → 2 ≤ condition_number other → condition_number other < 2 → Holds image other
 none_before image other from to = absurd (omega arith)
 
 -- an image without a directory fails the condition 2 first
@@ -29,7 +29,7 @@ no_directory image missing = record {
 }
 
 -- only the second comes before the third
-one_before : (image : List (List ℕ)) → directory image ≢ [] → (other : DirFault) → 2 ≤ number_of other → number_of other < 3 → Holds image other
+one_before : (image : List (List ℕ)) → directory image ≢ [] → (other : DirFault) → 2 ≤ condition_number other → condition_number other < 3 → Holds image other
 one_before image exists WrongCounts from to = absurd (omega arith)
 one_before image exists NoDirectory from to = exists
 one_before image exists UnknownKind from to = absurd (omega arith)

@@ -12,7 +12,7 @@ use Rattle.std.proofs.lemmas.Option.{MatchOption-at_none, MatchOption-at_some}
 use Rattle.d64_image.specs.Image.{tracks_of}
 use Rattle.d64_map.specs.Map.{CountsFit, free_blocks, count_of}
 use Rattle.d64_map.specs.Track.{members_on}
-use Rattle.d64_files.specs.Directory.{directory, slots, owned_blocks, number_of, Holds, AllHold, IsFirstFault}
+use Rattle.d64_files.specs.Directory.{directory, slots, owned_blocks, condition_number, Holds, AllHold, IsFirstFault}
 use Rattle.d64_files.specs.FirstFault.{is_nil, fails, err_of, first_fault, reading_conditions, owning_conditions, sound_conditions}
 use Rattle.d64_files.specs.FirstFaultLaws.{TellsFirst}
 use Rattle.d64_files.specs.Ownership.{chain_at, roots, HasItsChains}
@@ -175,7 +175,7 @@ fault_of : ℕ → DirFault
 fault_of n = get_or (MarkedFree ∷ sound_conditions) n MarkedFree
 
 -- each fault has a number of its own
-numbered_fault : (fault : DirFault) → fault_of (number_of fault) ≡ fault
+numbered_fault : (fault : DirFault) → fault_of (condition_number fault) ≡ fault
 unfolding fault_of
 numbered_fault WrongCounts = refl
 numbered_fault NoDirectory = refl
@@ -186,10 +186,10 @@ numbered_fault MarkedFree = refl
 
 -- of two first faults neither comes before the other
 not_later : (image : List (List ℕ)) (first last : ℕ) (fault other : DirFault) → IsFirstFault image first last fault → IsFirstFault image first last other
-    → number_of other ≤ number_of fault
+    → condition_number other ≤ condition_number fault
 not_later image first last fault other f g =
-    elim (cases_Bool (nat_lt (number_of fault) (number_of other))) [
-      | inl t ↦ let less : number_of fault < number_of other = grind (arith, nat_tests) in absurd (f.fails (g.others_hold fault f.not_before less))
+    elim (cases_Bool (nat_lt (condition_number fault) (condition_number other))) [
+      | inl t ↦ let less : condition_number fault < condition_number other = grind (arith, nat_tests) in absurd (f.fails (g.others_hold fault f.not_before less))
       | inr n ↦ grind (arith, nat_tests)
     ]
 
@@ -202,7 +202,7 @@ one_verdict image first last (Some fault) None f g = absurd (f.fails (g fault f.
 one_verdict image first last (Some fault) (Some other) f g =
     let less = not_later image first last fault other f g in
     let more = not_later image first last other fault g f in
-    let e : number_of fault ≡ number_of other = omega arith in
+    let e : condition_number fault ≡ condition_number other = omega arith in
     ap (λ (x : DirFault). Some x) (sym (numbered_fault fault) ∙ ap fault_of e ∙ numbered_fault other)
 
 -- the verdict of a result

@@ -12,7 +12,7 @@ use Rattle.d64_map.specs.Map.{map_block, CountsFit, free_blocks}
 use Rattle.d64_files.specs.Ownership.{owned_by, HasItsChains, NoneIsFree}
 use Rattle.d64_files.specs.Claims.{claims_of}
 use Rattle.d64_files.specs.Slot.{EntryView}
-use Rattle.d64_files.specs.Directory.{directory, slots, entries, owned_blocks, number_of, Holds, AllHold, IsFirstFault}
+use Rattle.d64_files.specs.Directory.{directory, slots, entries, owned_blocks, condition_number, Holds, AllHold, IsFirstFault}
 use Rattle.d64_files.specs.declared.dir_fault.DirFault.{DirFault}
 use Rattle.d64_files.specs.declared.dir_fault.DirFault.TheVariants.{WrongCounts, NoDirectory, UnknownKind, NoChain, CrossLinked, MarkedFree}
 use Rattle.d64_files.proofs.Owners.{entries_owned}
@@ -35,7 +35,7 @@ files_hold image dir chains distinct CrossLinked from to = distinct
 files_hold image dir chains distinct MarkedFree from to = absurd (omega arith)
 
 -- what comes before the condition 4
-before_chains : (image : List (List ℕ)) → AllHold image 2 3 → (other : DirFault) → 2 ≤ number_of other → number_of other < 4 → Holds image other
+before_chains : (image : List (List ℕ)) → AllHold image 2 3 → (other : DirFault) → 2 ≤ condition_number other → condition_number other < 4 → Holds image other
 before_chains image dir WrongCounts from to = absurd (omega arith)
 before_chains image dir NoDirectory from to = dir NoDirectory (omega arith) (omega arith)
 before_chains image dir UnknownKind from to = dir UnknownKind (omega arith) (omega arith)
@@ -54,7 +54,7 @@ missing_chain image dir missing = record {
 
 -- what comes before the condition 5
 before_crossed : (image : List (List ℕ)) → AllHold image 2 3 → All (HasItsChains image) (slots image)
-    → (other : DirFault) → 2 ≤ number_of other → number_of other < 5 → Holds image other
+    → (other : DirFault) → 2 ≤ condition_number other → condition_number other < 5 → Holds image other
 before_crossed image dir chains WrongCounts from to = absurd (omega arith)
 before_crossed image dir chains NoDirectory from to = dir NoDirectory (omega arith) (omega arith)
 before_crossed image dir chains UnknownKind from to = dir UnknownKind (omega arith) (omega arith)
@@ -91,7 +91,7 @@ wrong_counts image wrong = record {
 
 -- what comes before a fault of files, if the counts fit
 before_files : (image : List (List ℕ)) (fault : DirFault) → CountsFit image → IsFirstFault image 2 5 fault
-    → (other : DirFault) → 1 ≤ number_of other → number_of other < number_of fault → Holds image other
+    → (other : DirFault) → 1 ≤ condition_number other → condition_number other < condition_number fault → Holds image other
 before_files image fault counts f WrongCounts from to = counts
 before_files image fault counts f NoDirectory from to = f.others_hold NoDirectory (omega arith) to
 before_files image fault counts f UnknownKind from to = f.others_hold UnknownKind (omega arith) to
@@ -147,7 +147,7 @@ all_hold image counts files none CrossLinked from to = files CrossLinked (omega 
 all_hold image counts files none MarkedFree from to = none
 
 -- what comes before the condition 6
-before_free : (image : List (List ℕ)) → CountsFit image → AllHold image 2 5 → (other : DirFault) → 1 ≤ number_of other → number_of other < 6 → Holds image other
+before_free : (image : List (List ℕ)) → CountsFit image → AllHold image 2 5 → (other : DirFault) → 1 ≤ condition_number other → condition_number other < 6 → Holds image other
 before_free image counts files WrongCounts from to = counts
 before_free image counts files NoDirectory from to = files NoDirectory (omega arith) (omega arith)
 before_free image counts files UnknownKind from to = files UnknownKind (omega arith) (omega arith)

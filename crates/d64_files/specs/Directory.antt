@@ -61,13 +61,13 @@ abbrev pub is_name_taken : Bytes → List Bytes → Bool
 is_name_taken name cells = list_any (has_name name) cells
 
 -- the number of a condition
-abbrev pub number_of : DirFault → ℕ
-number_of WrongCounts = 1
-number_of NoDirectory = 2
-number_of UnknownKind = 3
-number_of NoChain = 4
-number_of CrossLinked = 5
-number_of MarkedFree = 6
+abbrev pub condition_number : DirFault → ℕ
+condition_number WrongCounts = 1
+condition_number NoDirectory = 2
+condition_number UnknownKind = 3
+condition_number NoChain = 4
+condition_number CrossLinked = 5
+condition_number MarkedFree = 6
 
 -- an image meets the condition of this fault
 abbrev pub Holds : Disk → DirFault → Type 0
@@ -80,11 +80,11 @@ Holds image MarkedFree = NoneIsFree image (owned_blocks image)
 
 -- an image meets the conditions with these numbers
 abbrev pub AllHold : Disk → ℕ → ℕ → Type 0
-AllHold image first last = (fault : DirFault) → first ≤ number_of fault → number_of fault ≤ last → Holds image fault
+AllHold image first last = (fault : DirFault) → first ≤ condition_number fault → condition_number fault ≤ last → Holds image fault
 
 -- of the conditions with these numbers, the fault is that of the first one that an image fails
 pub record IsFirstFault (image : Disk) (first last : ℕ) (fault : DirFault) : Type 0 where
-  pub not_before : first ≤ number_of fault
-  pub not_after : number_of fault ≤ last
+  pub not_before : first ≤ condition_number fault
+  pub not_after : condition_number fault ≤ last
   pub fails : ¬ (Holds image fault)
-  pub others_hold : (other : DirFault) → first ≤ number_of other → number_of other < number_of fault → Holds image other
+  pub others_hold : (other : DirFault) → first ≤ condition_number other → condition_number other < condition_number fault → Holds image other

@@ -33,7 +33,7 @@ abbrev pub is_label : Bytes → Bytes → Bool
 is_label forbidden bytes = nat_lt 0 (length bytes) && nat_le (length bytes) 16 && not (holds_any_of forbidden bytes)
 
 -- what is wrong with bytes that are no label: exactly one of the three
-abbrev pub IsFault : Bytes → Bytes → BadName → Type 0
-IsFault forbidden bytes Empty = bytes ≡ []
-IsFault forbidden bytes TooLong = 16 < length bytes
-IsFault forbidden bytes Forbidden = (length bytes ≤ 16) × Any (Contains forbidden) bytes
+abbrev pub IsLabelFault : Bytes → Bytes → BadName → Type 0
+IsLabelFault forbidden bytes Empty = bytes ≡ []
+IsLabelFault forbidden bytes TooLong = 16 < length bytes
+IsLabelFault forbidden bytes Forbidden = (length bytes ≤ 16) × Any (Contains forbidden) bytes

@@ -44,10 +44,10 @@ abbrev pub content_at : Disk → ℕ → Bytes
 content_at image slot = option_map_or (file_content image) (slice_get (slots image) slot) []
 
 -- the error of a result, unless memory is out
-abbrev pub refused_by : {A : Type 0} → Result A ReadFault → Option ReadFault
-refused_by (Ok value) = None
-refused_by (Err (Directory fault)) = Some (Directory fault)
-refused_by (Err NotFound) = Some NotFound
-refused_by (Err NotClosed) = Some NotClosed
-refused_by (Err WrongType) = Some WrongType
-refused_by (Err (Memory fault)) = None
+abbrev pub read_refused_by : {A : Type 0} → Result A ReadFault → Option ReadFault
+read_refused_by (Ok value) = None
+read_refused_by (Err (Directory fault)) = Some (Directory fault)
+read_refused_by (Err NotFound) = Some NotFound
+read_refused_by (Err NotClosed) = Some NotClosed
+read_refused_by (Err WrongType) = Some WrongType
+read_refused_by (Err (Memory fault)) = None

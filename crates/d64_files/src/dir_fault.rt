@@ -1,6 +1,6 @@
 //! The conditions of a sound image that can fail.
 ghost use Rattle.std.specs.Prelude.{◌≡◌};
-ghost use Rattle.d64_files.specs.Directory.{number_of};
+ghost use Rattle.d64_files.specs.Directory.{condition_number};
 
 use thiserror::Error;
 
@@ -30,7 +30,7 @@ pub enum DirFault {
 impl DirFault {
     /// The number of the condition, from 1 to 6.
     pub fn number(self) -> u8
-        ensures { result ≡ number_of self }
+        ensures { result ≡ condition_number self }
     {
         match self {
             DirFault::WrongCounts => 1,

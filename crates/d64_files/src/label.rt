@@ -1,6 +1,6 @@
 //! What names and patterns have in common.
 ghost use Rattle.std.specs.Prelude.{◌≡◌, ◌↔◌, ◌⊎◌, IsTrue, IsOk, is_ok, IfOk, IfErr, All, Any, Contains};
-ghost use Rattle.d64_files.specs.Label.{IsLabel, IsFault, is_label, holds_any_of};
+ghost use Rattle.d64_files.specs.Label.{IsLabel, IsLabelFault, is_label, holds_any_of};
 
 use arrayvec::ArrayVec;
 use thiserror::Error;
@@ -28,7 +28,7 @@ pub(crate) fn label(bytes: &[u8], forbidden: &[u8]) -> Result<ArrayVec<u8, MAX_L
     ensures test { is_ok result ≡ is_label forbidden.now bytes.now }
     ensures bytes { IfOk result (λ text. text.items ≡ bytes.now) }
     ensures label { IfOk result (λ text. IsLabel forbidden.now text.items) }
-    ensures fault { IfErr result (IsFault forbidden.now bytes.now) }
+    ensures fault { IfErr result (IsLabelFault forbidden.now bytes.now) }
 {
     if bytes.is_empty() {
         return Err(BadName::Empty);

@@ -1,6 +1,6 @@
 //! The names of files and disks.
 ghost use Rattle.std.specs.Prelude.{◌≡◌, ◌↔◌, IsOk, is_ok, IfOk, IfErr};
-ghost use Rattle.d64_files.specs.Label.{IsFault};
+ghost use Rattle.d64_files.specs.Label.{IsLabelFault};
 ghost use Rattle.d64_files.specs.Name.{IsName, is_name, name_in, forbidden_in_names};
 
 use crate::label::{BadName, MAX_LEN, label};
@@ -54,7 +54,7 @@ impl Name {
         ensures accepted { IsOk result ↔ IsName bytes.now }
         ensures test { is_ok result ≡ is_name bytes.now }
         ensures bytes { IfOk result (λ name. name ≡ bytes.now) }
-        ensures fault { IfErr result (IsFault forbidden_in_names bytes.now) }
+        ensures fault { IfErr result (IsLabelFault forbidden_in_names bytes.now) }
     {
         let text = label(bytes, FORBIDDEN)?;
         Ok(Name { text })

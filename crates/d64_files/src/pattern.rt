@@ -1,6 +1,6 @@
 //! Patterns, and which names they match.
 ghost use Rattle.std.specs.Prelude.{◌≡◌, ◌↔◌, IsTrue, IsOk, is_ok, IfOk, IfErr};
-ghost use Rattle.d64_files.specs.Label.{IsFault, separators};
+ghost use Rattle.d64_files.specs.Label.{IsLabelFault, separators};
 ghost use Rattle.d64_files.specs.Pattern.{IsPattern, is_pattern, Matches, matches as is_match};
 
 use crate::label::{BadName, MAX_LEN, label};
@@ -39,7 +39,7 @@ impl Pattern {
         ensures accepted { IsOk result ↔ IsPattern bytes.now }
         ensures test { is_ok result ≡ is_pattern bytes.now }
         ensures bytes { IfOk result (λ pattern. pattern ≡ bytes.now) }
-        ensures fault { IfErr result (IsFault separators bytes.now) }
+        ensures fault { IfErr result (IsLabelFault separators bytes.now) }
     {
         let text = label(bytes, FORBIDDEN)?;
         Ok(Pattern { text })

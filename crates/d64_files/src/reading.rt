@@ -2,7 +2,7 @@
 ghost use Rattle.std.specs.Prelude.{◌≡◌, ◌==◌, find, IfOk};
 ghost use Rattle.d64_files.specs.Slot.{EntryView, first_pair};
 ghost use Rattle.d64_files.specs.Ownership.{chain_at};
-ghost use Rattle.d64_files.specs.Reading.{is_del, refused_by, file_refusal, file_content, content_refusal, content_at};
+ghost use Rattle.d64_files.specs.Reading.{is_del, read_refused_by, file_refusal, file_content, content_refusal, content_at};
 
 use crate::block_list::BlockList;
 use crate::chain::chain_from;
@@ -82,7 +82,7 @@ fn is_del(kind: Kind) -> bool
 
 /// The chain of a file, if the file can be read.
 fn readable_chain(image: &Image, entry: &Entry) -> Result<BlockList, ReadFault>
-    ensures refused { refused_by result ≡ file_refusal image.now entry.now.bytes }
+    ensures refused { read_refused_by result ≡ file_refusal image.now entry.now.bytes }
     ensures chain { IfOk result (λ blocks. blocks ≡ chain_at image.now (first_pair entry.now.bytes)) }
 {
     if !entry.used() {
@@ -107,7 +107,7 @@ fn readable_chain(image: &Image, entry: &Entry) -> Result<BlockList, ReadFault>
 /// `WrongType` for a DEL entry; `Directory` if there is no chain from the file's first block
 /// (`NoChain`); `Memory` if there is no memory for the content.
 pub fn entry_content(alloc: Global, image: &Image, entry: &Entry) -> Result<Vec<u8>, ReadFault>
-    ensures refused { refused_by result ≡ file_refusal image.now entry.now.bytes }
+    ensures refused { read_refused_by result ≡ file_refusal image.now entry.now.bytes }
     ensures bytes { IfOk result (λ bytes. bytes.items ≡ file_content image.now entry.now.bytes) }
 {
     let blocks = readable_chain(image, entry)?;
@@ -122,7 +122,7 @@ pub fn entry_content(alloc: Global, image: &Image, entry: &Entry) -> Result<Vec<
 /// for a DEL entry; `Directory` if there is no chain from the file's first block (`NoChain`);
 /// `Memory` if there is no memory for the content.
 pub fn content(alloc: Global, image: &Image, slot: SlotNo) -> Result<Vec<u8>, ReadFault>
-    ensures refused { refused_by result ≡ content_refusal image.now slot }
+    ensures refused { read_refused_by result ≡ content_refusal image.now slot }
     ensures bytes { IfOk result (λ bytes. bytes.items ≡ content_at image.now slot) }
 {
     let directory = Directory::of(image)?;

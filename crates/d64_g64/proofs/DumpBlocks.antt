@@ -14,22 +14,22 @@ use Rattle.d64_image.proofs.Pairs.{pair_at-counted, block_of-legal, block_of-non
 use Rattle.d64_image.proofs.Zones.{starts_at, ends_at, first_block-first_zone, first_block-fourth_zone, sectors_on-first_zone, sectors_on-second_zone, sectors_on-third_zone, sectors_on-fourth_zone}
 use Rattle.d64_survey.specs.Dump.{dump_bytes}
 use Rattle.d64_g64.specs.Codes.{value_at, value_or_zero}
-use Rattle.d64_g64.specs.Blocks.{code_of, bytes_of, bytes_behind, data_bytes, is_data, header_of, blank}
+use Rattle.d64_g64.specs.Blocks.{block_code_of, block_bytes_of, bytes_behind, data_bytes, is_data, header_of, blank}
 use Rattle.d64_g64.specs.File.{track_of}
 use Rattle.d64_g64.specs.Dump.{id_in, block_code, block_bytes, first_codes, first_blocks, kept_count, g64_dump}
 
 -- a block by its track and sector
 pub code_is : (file : List ℕ) (number sector : ℕ) → 1 ≤ number → number < 41 → sector < sectors_on number
-    → code_of (id_in file) (track_of file number) number sector ≡ block_code file (first_block number + sector)
+    → block_code_of (id_in file) (track_of file number) number sector ≡ block_code file (first_block number + sector)
 unfolding block_code
 code_is file number sector low high within =
-    sym (ap (λ (pair : ℕ × ℕ). code_of (id_in file) (track_of file pair.0) pair.0 pair.1) (pair_at-counted number sector low high within))
+    sym (ap (λ (pair : ℕ × ℕ). block_code_of (id_in file) (track_of file pair.0) pair.0 pair.1) (pair_at-counted number sector low high within))
 
 pub bytes_are : (file : List ℕ) (number sector : ℕ) → 1 ≤ number → number < 41 → sector < sectors_on number
-    → bytes_of (id_in file) (track_of file number) number sector ≡ block_bytes file (first_block number + sector)
+    → block_bytes_of (id_in file) (track_of file number) number sector ≡ block_bytes file (first_block number + sector)
 unfolding block_bytes
 bytes_are file number sector low high within =
-    sym (ap (λ (pair : ℕ × ℕ). bytes_of (id_in file) (track_of file pair.0) pair.0 pair.1) (pair_at-counted number sector low high within))
+    sym (ap (λ (pair : ℕ × ℕ). block_bytes_of (id_in file) (track_of file pair.0) pair.0 pair.1) (pair_at-counted number sector low high within))
 
 -- no block, and one block more
 pub no_codes : (file : List ℕ) → first_codes file 0 ≡ []
@@ -106,7 +106,7 @@ length-behind track start = elim (cases_Bool (is_data track start)) [
 ]
 
 pub length-block : (file : List ℕ) (block : ℕ) → length (block_bytes file block) ≡ 256
-unfolding block_bytes bytes_of
+unfolding block_bytes block_bytes_of
 length-block file block = long (track_of file (pair_at block).0) (header_of (id_in file) (track_of file (pair_at block).0) (pair_at block).0 (pair_at block).1)
   where
     long : (track : List ℕ) (found : Option (ℕ × ℕ)) → length (option_map_or (λ (pair : ℕ × ℕ). bytes_behind track pair.1) found blank) ≡ 256

@@ -10,9 +10,9 @@ use Rattle.d64_image.specs.Image.{IsBlock, IsSize}
 use Rattle.d64_survey.specs.Dump.{IsDump}
 use Rattle.d64_g64.specs.Circle.{bits_from}
 use Rattle.d64_g64.specs.Codes.{nibble_of, joined, byte_of_bits, value_at, value_or_zero}
-use Rattle.d64_g64.specs.Blocks.{data_bytes, bytes_behind, bytes_of, header_of, is_data, blank}
+use Rattle.d64_g64.specs.Blocks.{data_bytes, bytes_behind, block_bytes_of, header_of, is_data, blank}
 use Rattle.d64_g64.specs.File.{track_of}
-use Rattle.d64_g64.specs.Dump.{id_in, block_bytes, first_blocks, first_codes, kept_count, block_count, g64_dump}
+use Rattle.d64_g64.specs.Dump.{id_in, block_bytes, first_blocks, first_codes, kept_count, dump_block_count, g64_dump}
 use Rattle.d64_g64.proofs.Nibbles.{nibble_fits}
 use Rattle.d64_g64.proofs.DumpBlocks.{length-block, length-first_codes}
 
@@ -50,7 +50,7 @@ behind_fits track start = elim (cases_Bool (is_data track start)) [
         subst (λ (n : ℕ). n < 256) (sym (get_or-map-range_with_len (λ k. value_or_zero (value_at track start k)) 1 256 k (1 + k) d held refl)) (byte_fits track start (1 + k))
 
 block_fits : (file : List ℕ) (block : ℕ) → All (λ byte. byte < 256) (block_bytes file block)
-unfolding block_bytes bytes_of
+unfolding block_bytes block_bytes_of
 block_fits file block = by_header (track_of file (pair_at block).0) (header_of (id_in file) (track_of file (pair_at block).0) (pair_at block).0 (pair_at block).1)
   where
     by_header : (track : List ℕ) (found : Option (ℕ × ℕ)) → All (λ byte. byte < 256) (option_map_or (λ (pair : ℕ × ℕ). bytes_behind track pair.1) found blank)
@@ -78,7 +78,7 @@ blocks_are file count k d h =
 pub is_dump : (file : List ℕ) → IsDump (g64_dump file)
 unfolding g64_dump
 is_dump file =
-    let count = block_count file in (
+    let count = dump_block_count file in (
       (subst (λ (n : ℕ). IsSize n) (sym (length-first_blocks file count)) (kept_is (first_codes file 768)), blocks_are file count),
       length-first_codes file count ∙ sym (length-first_blocks file count),
     )

@@ -1,7 +1,7 @@
 -- A dump in place of another one, by what was refused and what was filled
 use Rattle.std.proofs.Common.{◌≡◌, ℕ, Bool, true, false, not, Option, Some, None, Result, Ok, Err, refl, sym, ap, ◌∙◌}
 use Rattle.std.specs.Prelude.{OnOk, if◌then◌else◌, is_some}
-use Rattle.d64_survey.specs.Dump.{DumpView, wrong_length}
+use Rattle.d64_survey.specs.Dump.{DumpView, wrong_dump_length}
 use Rattle.d64_survey.specs.declared.dump.DumpFault.{DumpFault}
 
 -- two facts of a success make a third one
@@ -22,7 +22,7 @@ same_fault false dump found n is = ap (λ (o : Option DumpView). if is_some o th
 
 -- and its dump
 pub same_filling : (r : Result (Unit {0}) DumpFault) (sound : Bool) (new dump : DumpView) (found : Option DumpView) (n : ℕ)
-    → wrong_length r ≡ (if sound then None else Some n) → OnOk r (new ≡ dump) → (if sound then Some dump else None) ≡ found → OnOk r (found ≡ Some new)
+    → wrong_dump_length r ≡ (if sound then None else Some n) → OnOk r (new ≡ dump) → (if sound then Some dump else None) ≡ found → OnOk r (found ≡ Some new)
 same_filling (Err fault) sound new dump found n refused filled is = tt
 same_filling (Ok done) true new dump found n refused filled is = sym is ∙ ap (λ (d : DumpView). Some d) (sym filled)
 same_filling (Ok done) false new dump found n refused filled is = absurd (cc)

@@ -7,10 +7,10 @@ use Rattle.std.proofs.lemmas.Bool.{cases_Bool, eq-eqb}
 use Rattle.std.proofs.lemmas.Bool.Decides.{eqb_tells}
 use Rattle.d64_image.specs.Block.{pair_at}
 use Rattle.d64_g64.specs.Starts.{starts_on, start_pairs, paired}
-use Rattle.d64_g64.specs.Headers.{names, is_good, has_other_id}
-use Rattle.d64_g64.specs.Blocks.{names_readable, header_code, data_code, is_data, is_whole, data_bytes, bytes_behind, code_of, bytes_of, blank}
+use Rattle.d64_g64.specs.Headers.{names_block, is_good_header, has_other_id}
+use Rattle.d64_g64.specs.Blocks.{names_readable, header_code, data_code, is_data, is_whole_block, data_bytes, bytes_behind, block_code_of, block_bytes_of, blank}
 use Rattle.d64_g64.specs.Dump.{id_in}
-use Rattle.d64_g64.specs.Laws.{is_sound}
+use Rattle.d64_g64.specs.Laws.{is_sound_block}
 use Rattle.d64_g64.proofs.HeaderSearches.{found_good, found_first, code_with, code_without, bytes_with, found_has, code_one}
 
 -- two tests that agree find the same
@@ -43,16 +43,16 @@ by_parts true true false true true = refl
 by_parts true true false true false = refl
 
 pub sound_is : (file track : List ℕ) (block : ℕ) (pair : ℕ × ℕ)
-    → names_readable (id_in file) track (pair_at block).0 (pair_at block).1 pair ≡ is_sound file track block pair
+    → names_readable (id_in file) track (pair_at block).0 (pair_at block).1 pair ≡ is_sound_block file track block pair
 unfolding header_code data_code
 sound_is file track block pair =
-    by_parts (names track (pair_at block).0 (pair_at block).1 pair) (is_good track pair) (has_other_id (id_in file) track pair) (is_data track pair.1) (is_whole track pair.1)
+    by_parts (names_block track (pair_at block).0 (pair_at block).1 pair) (is_good_header track pair) (has_other_id (id_in file) track pair) (is_data track pair.1) (is_whole_block track pair.1)
 
 -- so the search for the one is the search for the other
 pub search_is : (file track : List ℕ) (block : ℕ)
-    → find (names_readable (id_in file) track (pair_at block).0 (pair_at block).1) (start_pairs track) ≡ find (is_sound file track block) (start_pairs track)
+    → find (names_readable (id_in file) track (pair_at block).0 (pair_at block).1) (start_pairs track) ≡ find (is_sound_block file track block) (start_pairs track)
 search_is file track block =
-    find_same (names_readable (id_in file) track (pair_at block).0 (pair_at block).1) (is_sound file track block) (start_pairs track) (λ pair. sound_is file track block pair)
+    find_same (names_readable (id_in file) track (pair_at block).0 (pair_at block).1) (is_sound_block file track block) (start_pairs track) (λ pair. sound_is file track block pair)
 
 -- a track on which something is found has a start
 some_start : (p : ℕ × ℕ → Bool) (starts : List ℕ) (pair : ℕ × ℕ) → find p (paired starts) ≡ Some pair → length starts ≡ 0 → ⊥
@@ -60,37 +60,37 @@ some_start p [] pair found none = absurd (cc)
 some_start p (first ∷ rest) pair found none = omega arith
 
 pub code_of_sound : (id : Option (ℕ × ℕ)) (track : List ℕ) (number sector : ℕ) (found : Option (ℕ × ℕ))
-    → find (names_readable id track number sector) (start_pairs track) ≡ found → is_some found ≡ true → code_of id track number sector ≡ 1
+    → find (names_readable id track number sector) (start_pairs track) ≡ found → is_some found ≡ true → block_code_of id track number sector ≡ 1
 code_of_sound id track number sector None is some = absurd (cc)
 code_of_sound id track number sector (Some pair) is some =
     sym (code_one id track number sector pair is
     ∙ code_with id track number sector (Some pair) (some_start (names_readable id track number sector) (starts_on track) pair is) (found_good id track number sector pair is))
 
 pub sound_of_code : (id : Option (ℕ × ℕ)) (track : List ℕ) (number sector : ℕ) (found first : Option (ℕ × ℕ))
-    → find (names_readable id track number sector) (start_pairs track) ≡ found → find (names track number sector) (start_pairs track) ≡ first
-    → code_of id track number sector ≡ 1 → is_some found ≡ true
+    → find (names_readable id track number sector) (start_pairs track) ≡ found → find (names_block track number sector) (start_pairs track) ≡ first
+    → block_code_of id track number sector ≡ 1 → is_some found ≡ true
 sound_of_code id track number sector (Some pair) first is first_is one = refl
 sound_of_code id track number sector None first is first_is one = elim (eqb_tells (length (starts_on track)) 0) [
   | inl none ↦ let wrong : ◌≡◌ {A = ℕ} 3 1 = code_without id track number sector none.1 ∙ one in absurd (omega arith)
   | inr some ↦ by_first first first_is (code_with id track number sector first some.1 (found_first id track number sector is ∙ first_is) ∙ one)
 ]
   where
-    by_first : (o : Option (ℕ × ℕ)) → find (names track number sector) (start_pairs track) ≡ o → option_map_or (header_code id track) o 2 ≡ 1 → is_some {T = ℕ × ℕ} None ≡ true
+    by_first : (o : Option (ℕ × ℕ)) → find (names_block track number sector) (start_pairs track) ≡ o → option_map_or (header_code id track) o 2 ≡ 1 → is_some {T = ℕ × ℕ} None ≡ true
     by_first None o_is wrong = absurd (omega arith)
     by_first (Some pair) o_is code =
-        let passes : (names track number sector pair && (header_code id track pair == 1)) ≡ true = ap₂ ◌&&◌ (found_has (names track number sector) (start_pairs track) pair o_is) (eq-eqb _ _ code) in
-        let fails = refuses (names_readable id track number sector) (names track number sector) (start_pairs track) pair o_is is in
+        let passes : (names_block track number sector pair && (header_code id track pair == 1)) ≡ true = ap₂ ◌&&◌ (found_has (names_block track number sector) (start_pairs track) pair o_is) (eq-eqb _ _ code) in
+        let fails = refuses (names_readable id track number sector) (names_block track number sector) (start_pairs track) pair o_is is in
         let wrong : true ≡ false = sym passes ∙ fails in absurd (cc)
 
 -- and its bytes are those behind it
-pub bytes_of_sound : (file track : List ℕ) (block : ℕ) (pair : ℕ × ℕ) → find (is_sound file track block) (start_pairs track) ≡ Some pair
-    → bytes_of (id_in file) track (pair_at block).0 (pair_at block).1 ≡ data_bytes track pair.1
+pub bytes_of_sound : (file track : List ℕ) (block : ℕ) (pair : ℕ × ℕ) → find (is_sound_block file track block) (start_pairs track) ≡ Some pair
+    → block_bytes_of (id_in file) track (pair_at block).0 (pair_at block).1 ≡ data_bytes track pair.1
 unfolding bytes_behind
 bytes_of_sound file track block pair is =
     let found = search_is file track block ∙ is in
     let there : is_data track pair.1 ≡ true =
-    last (names track (pair_at block).0 (pair_at block).1 pair && is_good track pair && not (has_other_id (id_in file) track pair)) (is_data track pair.1) (is_whole track pair.1)
-    (found_has (is_sound file track block) (start_pairs track) pair is) in
+    last (names_block track (pair_at block).0 (pair_at block).1 pair && is_good_header track pair && not (has_other_id (id_in file) track pair)) (is_data track pair.1) (is_whole_block track pair.1)
+    (found_has (is_sound_block file track block) (start_pairs track) pair is) in
     sym (bytes_with (id_in file) track (pair_at block).0 (pair_at block).1 (Some pair) (found_good (id_in file) track (pair_at block).0 (pair_at block).1 pair found))
     ∙ ap (λ (b : Bool). cond b (data_bytes track pair.1) blank) there
   where

@@ -1,7 +1,7 @@
 -- The names of headers, one after another
 use Rattle.std.proofs.Common.{◌≡◌, ℕ, ◌+◌, ◌<◌, ◌≤◌, suc, Bool, true, false, cond, Option, List, [], ◌∷◌, ◌++◌, length, map, filter, get_or, drop, refl, sym, ap, ap₂, ◌∙◌, append_assoc, append-nil, arith}
 use Rattle.d64_g64.specs.Starts.{next_of, paired}
-use Rattle.d64_g64.specs.SoundNames.{is_sound_header, name_of, names_by}
+use Rattle.d64_g64.specs.SoundNames.{is_sound_header, pair_named, names_by}
 use Rattle.d64_g64.proofs.StartPairs.{drop-paired, no_pairs_left}
 
 -- the first of them, and the others
@@ -9,8 +9,8 @@ names-cons : (id : Option (ℕ × ℕ)) (track : List ℕ) (pair : ℕ × ℕ) (
 unfolding names_by
 names-cons id track pair pairs = by (is_sound_header id track pair)
   where
-    by : (b : Bool) → map (name_of track) (cond b (pair ∷ filter (is_sound_header id track) pairs) (filter (is_sound_header id track) pairs))
-        ≡ map (name_of track) (cond b (pair ∷ []) []) ++ map (name_of track) (filter (is_sound_header id track) pairs)
+    by : (b : Bool) → map (pair_named track) (cond b (pair ∷ filter (is_sound_header id track) pairs) (filter (is_sound_header id track) pairs))
+        ≡ map (pair_named track) (cond b (pair ∷ []) []) ++ map (pair_named track) (filter (is_sound_header id track) pairs)
     by true = refl
     by false = refl
 

@@ -5,15 +5,15 @@ use Rattle.std.specs.Option.{option_map_or, option_or}
 use Rattle.d64_image.specs.Disk.{Bytes}
 use Rattle.d64_g64.specs.Codes.{value_at, value_or_zero, is_value}
 use Rattle.d64_g64.specs.Starts.{starts_on, start_pairs}
-use Rattle.d64_g64.specs.Headers.{names, is_good, has_other_id}
+use Rattle.d64_g64.specs.Headers.{names_block, is_good_header, has_other_id}
 
 -- bytes 1 to 256 from a data start, 0 for one without a value
 unfoldable pub data_bytes : Bytes → ℕ → Bytes
 data_bytes track start = map (λ k. value_or_zero (value_at track start k)) (range_with_len 1 256)
 
 -- whether bytes 1 to 256 from a data start have values, and byte 257 is their exclusive or
-unfoldable pub is_whole : Bytes → ℕ → Bool
-is_whole track start =
+unfoldable pub is_whole_block : Bytes → ℕ → Bool
+is_whole_block track start =
     list_all (λ k. is_some (value_at track start k)) (range_with_len 1 256) && is_value (value_at track start 257) (fold bit_xor 0 (data_bytes track start))
 
 -- whether byte 0 of the data start is $07
@@ -23,17 +23,17 @@ is_data track start = is_value (value_at track start 0) 7
 -- the code of what follows a header, by its data start: 4 if it is no data block, 5 if it isn't
 -- whole, 1 if it is
 unfoldable pub data_code : Bytes → ℕ → ℕ
-data_code track start = if is_data track start then (if is_whole track start then 1 else 5) else 4
+data_code track start = if is_data track start then (if is_whole_block track start then 1 else 5) else 4
 
 -- the code of a header: 9 if it isn't good, 11 if its id isn't the disk's, else the code of what
 -- follows it
 unfoldable pub header_code : Option (ℕ × ℕ) → Bytes → ℕ × ℕ → ℕ
 header_code id track pair =
-    if is_good track pair then (if has_other_id id track pair then 11 else data_code track pair.1) else 9
+    if is_good_header track pair then (if has_other_id id track pair then 11 else data_code track pair.1) else 9
 
 -- whether a header names a block, and has code 1
 abbrev pub names_readable : Option (ℕ × ℕ) → Bytes → ℕ → ℕ → ℕ × ℕ → Bool
-names_readable id track number sector pair = names track number sector pair && (header_code id track pair == 1)
+names_readable id track number sector pair = names_block track number sector pair && (header_code id track pair == 1)
 
 -- 256 bytes of 0
 abbrev pub blank : Bytes
@@ -48,13 +48,13 @@ unfoldable pub header_of : Option (ℕ × ℕ) → Bytes → ℕ → ℕ → Opt
 header_of id track number sector =
     option_or
     (find (names_readable id track number sector) (start_pairs track))
-    (find (names track number sector) (start_pairs track))
+    (find (names_block track number sector) (start_pairs track))
 
 -- the code of a block: 3 if its track has no start, 2 if no header names it, else its header's
-unfoldable pub code_of : Option (ℕ × ℕ) → Bytes → ℕ → ℕ → ℕ
-code_of id track number sector =
+unfoldable pub block_code_of : Option (ℕ × ℕ) → Bytes → ℕ → ℕ → ℕ
+block_code_of id track number sector =
     if length (starts_on track) == 0 then 3 else option_map_or (header_code id track) (header_of id track number sector) 2
 
 -- the bytes of a block: those behind its header, or zeros if it has no header
-unfoldable pub bytes_of : Option (ℕ × ℕ) → Bytes → ℕ → ℕ → Bytes
-bytes_of id track number sector = option_map_or (λ pair. bytes_behind track pair.1) (header_of id track number sector) blank
+unfoldable pub block_bytes_of : Option (ℕ × ℕ) → Bytes → ℕ → ℕ → Bytes
+block_bytes_of id track number sector = option_map_or (λ pair. bytes_behind track pair.1) (header_of id track number sector) blank

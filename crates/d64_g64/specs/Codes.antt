@@ -43,6 +43,6 @@ xor_of (Some value) None = None
 xor_of (Some value) (Some other) = Some (bit_xor value other)
 
 -- whether both bytes have values, and these are equal
-abbrev pub are_equal : Option ℕ → Option ℕ → Bool
-are_equal value None = false
-are_equal value (Some other) = is_value value other
+abbrev pub are_equal_values : Option ℕ → Option ℕ → Bool
+are_equal_values value None = false
+are_equal_values value (Some other) = is_value value other

@@ -5,7 +5,7 @@ use Rattle.d64_image.specs.Disk.{Bytes}
 use Rattle.d64_g64.specs.Circle.{bits_from}
 
 -- a place of a track, counted in bits
-pub record Place : Type 0 where
+pub record TrackPlace : Type 0 where
   pub track : Bytes
   pub place : ℕ
 

@@ -1,8 +1,8 @@
 //! Blocks, as the headers of a track name them.
 ghost use Rattle.std.specs.Prelude.{◌≡◌, ℕ, ◌*◌, ◌<◌, ◌==◌, ◌&&◌, true, false, length, MatchOption, find};
 ghost use Rattle.d64_g64.specs.Starts.{start_pairs};
-ghost use Rattle.d64_g64.specs.Headers.{names};
-ghost use Rattle.d64_g64.specs.Blocks.{names_readable, data_bytes, is_whole, data_code, header_code, bytes_behind, code_of, bytes_of, blank};
+ghost use Rattle.d64_g64.specs.Headers.{names_block};
+ghost use Rattle.d64_g64.specs.Blocks.{names_readable, data_bytes, is_whole_block, data_code, header_code, bytes_behind, block_code_of, block_bytes_of, blank};
 
 use crate::code::{is_value, value_at, value_or_zero};
 use crate::header::{Id, has_other_id, is_good, names};
@@ -21,7 +21,7 @@ fn make_blank(block: &mut [u8; BLOCK_BYTES])
 /// the checksum is right.
 fn read_data(start: &Start<'_>, block: &mut [u8; BLOCK_BYTES]) -> bool
     ensures bytes { block.new ≡ data_bytes start.now.track start.now.place }
-    ensures whole { result ≡ is_whole start.now.track start.now.place }
+    ensures whole { result ≡ is_whole_block start.now.track start.now.place }
 {
     let mut whole = true;
     let mut sum = 0;
@@ -104,7 +104,7 @@ fn read_first(
     sector: u8,
     block: &mut [u8; BLOCK_BYTES],
 ) -> u8
-    ensures { MatchOption (find (names track.now number sector) (start_pairs track.now))
+    ensures { MatchOption (find (names_block track.now number sector) (start_pairs track.now))
         ((result ≡ 2) × (block.new ≡ blank))
         (λ pair. (result ≡ header_code id track.now pair) × (block.new ≡ bytes_behind track.now pair.1)) }
 {
@@ -126,8 +126,8 @@ pub(crate) fn read_block(
     sector: u8,
     block: &mut [u8; BLOCK_BYTES],
 ) -> u8
-    ensures code { result ≡ code_of id track.now number sector }
-    ensures bytes { block.new ≡ bytes_of id track.now number sector }
+    ensures code { result ≡ block_code_of id track.now number sector }
+    ensures bytes { block.new ≡ block_bytes_of id track.now number sector }
 {
     if count_starts(track) == 0 {
         make_blank(block);

@@ -1,6 +1,6 @@
 //! The group code, in which a track holds its bytes.
 ghost use Rattle.std.specs.Prelude.{◌≡◌, ◌<◌, IfSome};
-ghost use Rattle.d64_g64.specs.Codes.{nibble_of, byte_of_bits, value_at, value_or_zero, is_value, xor_of, are_equal};
+ghost use Rattle.d64_g64.specs.Codes.{nibble_of, byte_of_bits, value_at, value_or_zero, is_value, xor_of, are_equal_values};
 
 use crate::circle::{around, ten_bits};
 use crate::start::Start;
@@ -73,7 +73,7 @@ pub(crate) fn xor_of(one: Option<u8>, other: Option<u8>) -> Option<u8>
 
 /// Whether both values are there and equal.
 pub(crate) fn are_equal(one: Option<u8>, other: Option<u8>) -> bool
-    ensures { result ≡ are_equal one other }
+    ensures { result ≡ are_equal_values one other }
 {
     match other {
         Some(value) => is_value(one, value),

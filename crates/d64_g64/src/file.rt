@@ -1,6 +1,6 @@
 //! G64 files and the places of their tracks.
 ghost use Rattle.std.specs.Prelude.{◌≡◌, ℕ, ◌+◌, ◌-◌, ◌*◌, ◌<◌, ◌≤◌, true, length, OnOk, if◌then◌else◌, Some, None};
-ghost use Rattle.d64_g64.specs.File.{begins_as_g64, number_of_two, number_of_four, is_g64, entries, offset_of, has_track, padded, entry_bytes};
+ghost use Rattle.d64_g64.specs.File.{begins_as_g64, number_of_two, number_of_four, is_g64, place_count, offset_of, has_track, padded, entry_track_bytes};
 
 use std::alloc::AllocError;
 
@@ -79,7 +79,7 @@ fn copy_padded(
 /// from 0: entry 0 is track 1, entry 1 the half track behind it.
 pub(crate) fn copy_entry(copy: &mut Vec<u8>, file: &[u8], entry: u8) -> Result<(), AllocError>
     requires file { is_g64 file.now ≡ true }
-    ensures copied { OnOk result (copy.new.items ≡ entry_bytes file.now entry) }
+    ensures copied { OnOk result (copy.new.items ≡ entry_track_bytes file.now entry) }
     ensures short { OnOk result (length copy.new.items < 65536) }
 {
     if !has_track(file, entry) {

@@ -2,8 +2,8 @@
 ghost use Rattle.std.specs.Prelude.{◌≡◌, ◌++◌, ◌∷◌, [], ◌*◌, ◌<◌, true, length, OnOk};
 ghost use Rattle.d64_g64.specs.Codes.{value_at, value_or_zero};
 ghost use Rattle.d64_g64.specs.Dump.{id_in};
-ghost use Rattle.d64_g64.specs.File.{is_g64, entry_bytes};
-ghost use Rattle.d64_g64.specs.SoundNames.{is_sound_header, name_of, names_by, is_read_as_g64, names_on};
+ghost use Rattle.d64_g64.specs.File.{is_g64, entry_track_bytes};
+ghost use Rattle.d64_g64.specs.SoundNames.{is_sound_header, pair_named, names_by, is_read_as_g64, names_on};
 ghost use Rattle.d64_g64.specs.Starts.{start_pairs};
 
 use crate::block::read_behind;
@@ -66,7 +66,7 @@ fn add_entry(
     lists: &mut TrackLists,
 ) -> Result<(), AllocError>
     requires { is_g64 file.now ≡ true }
-    ensures { OnOk result (names.new.items ≡ names.old.items ++ names_by (id_in file.now) (entry_bytes file.now entry) (start_pairs (entry_bytes file.now entry))) }
+    ensures { OnOk result (names.new.items ≡ names.old.items ++ names_by (id_in file.now) (entry_track_bytes file.now entry) (start_pairs (entry_track_bytes file.now entry))) }
 {
     let id = read_id(file, lists)?;
     let track = read_entry(lists, file, entry)?;

@@ -1,6 +1,6 @@
 //! The dump that a file is read as: a D64 or a G64.
 ghost use Rattle.std.specs.Prelude.{◌≡◌, if◌then◌else◌, Some, None, OnOk, OnErr, is_some, length};
-ghost use Rattle.d64_survey.specs.Dump.{wrong_length, image_bytes};
+ghost use Rattle.d64_survey.specs.Dump.{wrong_dump_length, image_bytes};
 ghost use Rattle.d64_g64.specs.File.{is_g64};
 ghost use Rattle.d64_g64.specs.Dump.{g64_dump};
 ghost use Rattle.d64_g64.specs.DumpOf.{dump_of};
@@ -30,7 +30,7 @@ pub fn is_dump(file: &[u8]) -> bool
 
 /// Replaces a dump by that of a G64.
 fn refill_from_g64(dump: &mut Dump, alloc: Global, file: &[u8]) -> Result<(), DumpFault>
-    ensures refused { wrong_length result ≡ (if is_g64 file.now then None else Some (length file.now)) }
+    ensures refused { wrong_dump_length result ≡ (if is_g64 file.now then None else Some (length file.now)) }
     ensures filled { OnOk result (dump.new ≡ g64_dump file.now) }
     ensures unchanged { OnErr result (dump.new ≡ dump.old) }
 {
@@ -45,7 +45,7 @@ fn refill_from_g64(dump: &mut Dump, alloc: Global, file: &[u8]) -> Result<(), Du
 /// G64. The error `WrongLength` has the number of bytes if they are neither, or a bad G64, and then
 /// the dump is unchanged.
 pub fn refill_from(dump: &mut Dump, alloc: Global, file: &[u8]) -> Result<(), DumpFault>
-    ensures refused { wrong_length result ≡ (if is_some (dump_of file.now) then None else Some (length file.now)) }
+    ensures refused { wrong_dump_length result ≡ (if is_some (dump_of file.now) then None else Some (length file.now)) }
     ensures filled { OnOk result (dump_of file.now ≡ Some dump.new) }
     ensures unchanged { OnErr result (dump.new ≡ dump.old) }
 {

@@ -18,9 +18,9 @@ pub(crate) struct Start<'a> {
 impl<'a> Model for Start<'a> {
     ghost use Rattle.std.specs.Prelude.{◌*◌, ◌<◌, length};
     ghost use Rattle.d64_g64.specs.Circle.{IsTrack};
-    ghost use Rattle.d64_g64.specs.Starts.{Place};
+    ghost use Rattle.d64_g64.specs.Starts.{TrackPlace};
 
-    ghost Value = { Place };
+    ghost Value = { TrackPlace };
 
     ghost view = { λ start. record { track = start.track.now; place = start.place } };
 

@@ -1,6 +1,6 @@
 //! The track that is read, with its starts.
 ghost use Rattle.std.specs.Prelude.{◌≡◌, ℕ, ◌*◌, ◌<◌, ◌≤◌, true, length, slice_index, IfOk};
-ghost use Rattle.d64_g64.specs.File.{is_g64, entry_bytes, track_of};
+ghost use Rattle.d64_g64.specs.File.{is_g64, entry_track_bytes, track_of};
 ghost use Rattle.d64_g64.specs.Starts.{starts_on, next_of};
 
 use crate::file::copy_entry;
@@ -41,7 +41,7 @@ pub(crate) fn read_entry<'a>(
     entry: u8,
 ) -> Result<Track<'a>, AllocError>
     requires { is_g64 file.now ≡ true }
-    ensures { IfOk result (λ track. track ≡ entry_bytes file.now entry) }
+    ensures { IfOk result (λ track. track ≡ entry_track_bytes file.now entry) }
 {
     copy_entry(&mut lists.bytes, file, entry)?;
     list_starts(&mut lists.starts, &lists.bytes)?;

@@ -7,7 +7,7 @@ use Rattle.d64_survey.specs.Flaws.{why, wholeness}
 use Rattle.d64_survey.specs.declared.owner.Part.TheVariants.{Data, Side}
 use Rattle.d64_inventory.specs.Contents.{content_of, digested_content}
 use Rattle.d64_inventory.specs.Conditions.{conditions}
-use Rattle.d64_inventory.specs.Rows.{FileRowView, known_kind, record_length_by, way_length, error_count, row_of}
+use Rattle.d64_inventory.specs.Rows.{FileRowView, known_kind, record_length_by, way_length, error_count, file_row_of}
 
 -- what a row has is right
 pub record AreTold (dump : DumpView) (numbered : ℕ × List ℕ) (row : FileRowView) : Type 0 where
@@ -29,8 +29,8 @@ pub record AreTold (dump : DumpView) (numbered : ℕ × List ℕ) (row : FileRow
   pub read_errors : row.read_errors ≡ error_count dump numbered.1
 
 -- so it is the row
-pub row_is : (dump : DumpView) (numbered : ℕ × List ℕ) (row : FileRowView) → AreTold dump numbered row → row ≡ row_of dump numbered
-unfolding row_of
+pub row_is : (dump : DumpView) (numbered : ℕ × List ℕ) (row : FileRowView) → AreTold dump numbered row → row ≡ file_row_of dump numbered
+unfolding file_row_of
 row_is dump numbered row t = λ i. record {
   slot = t.slot i;
   field = t.field i;

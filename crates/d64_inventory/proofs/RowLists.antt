@@ -10,7 +10,7 @@ use Rattle.d64_files.specs.Directory.{numbered_slots}
 use Rattle.d64_files.specs.Slot.{is_used}
 use Rattle.d64_survey.specs.Dump.{DumpView}
 use Rattle.d64_survey.specs.Owners.{way_slots}
-use Rattle.d64_inventory.specs.Rows.{FileRowView, row_of, row_at, rows_among, rows_from, rows}
+use Rattle.d64_inventory.specs.Rows.{FileRowView, file_row_of, row_at, rows_among, rows_from, rows}
 
 -- past the last slot no row is left
 pub none_left : (dump : DumpView) (slot : ℕ) → length (way_slots dump.image) ≤ slot → rows_from dump slot ≡ []
@@ -27,7 +27,7 @@ later dump slot = rows_from dump (slot + 1)
 
 -- those from a slot on are its own row, if it is used, and the later ones
 first_and_later : (dump : DumpView) (slot : ℕ) → slot < length (way_slots dump.image)
-    → rows_from dump slot ≡ cond (is_used (bytes_of dump slot)) (row_of dump (slot, bytes_of dump slot) ∷ later dump slot) (later dump slot)
+    → rows_from dump slot ≡ cond (is_used (bytes_of dump slot)) (file_row_of dump (slot, bytes_of dump slot) ∷ later dump slot) (later dump slot)
 first_and_later dump slot within =
     let cells = way_slots dump.image in
     let long : slot < length (numbered_slots cells) = omega (arith, length-enumerate_from 0 cells) in
@@ -37,15 +37,15 @@ first_and_later dump slot within =
     (get_or-enumerate_from 0 cells slot (0, []) within ∙ ap₂ (λ (n : ℕ) (b : List ℕ). (n, b)) (let e : 0 + slot ≡ slot = omega arith in e) refl))
     ∙ mapped (is_used (bytes_of dump slot)) (slot, bytes_of dump slot) (filter (λ (s : ℕ × List ℕ). is_used s.1) (drop (slot + 1) (numbered_slots cells)))
   where
-    mapped : (used : Bool) (s : ℕ × List ℕ) (rest : List (ℕ × List ℕ)) → map (row_of dump) (cond used (s ∷ rest) rest) ≡ cond used (row_of dump s ∷ map (row_of dump) rest) (map (row_of dump) rest)
+    mapped : (used : Bool) (s : ℕ × List ℕ) (rest : List (ℕ × List ℕ)) → map (file_row_of dump) (cond used (s ∷ rest) rest) ≡ cond used (file_row_of dump s ∷ map (file_row_of dump) rest) (map (file_row_of dump) rest)
     mapped true s rest = refl
     mapped false s rest = refl
 
 -- the row of a slot that is there
 row_there : (dump : DumpView) (slot : ℕ) → slot < length (way_slots dump.image)
-    → row_at dump slot ≡ cond (is_used (bytes_of dump slot)) (Some (row_of dump (slot, bytes_of dump slot))) None
+    → row_at dump slot ≡ cond (is_used (bytes_of dump slot)) (Some (file_row_of dump (slot, bytes_of dump slot))) None
 row_there dump slot within =
-    ap (λ (c : Option (List ℕ)). option_and_then (λ cell. cond (is_used cell) (Some (row_of dump (slot, cell))) None) c) (slice_get-get_or (way_slots dump.image) slot [] within)
+    ap (λ (c : Option (List ℕ)). option_and_then (λ cell. cond (is_used cell) (Some (file_row_of dump (slot, cell))) None) c) (slice_get-get_or (way_slots dump.image) slot [] within)
 
 -- what was found at a slot
 by_use : (used : Bool) (row found : FileRowView) → Some found ≡ cond used (Some row) None → (rest : List FileRowView) → cond used (row ∷ rest) rest ≡ found ∷ rest
@@ -59,12 +59,12 @@ by_no_use false row e rest = refl
 -- a row at a slot is the first that is left
 pub row_first : (dump : DumpView) (slot : ℕ) (row : FileRowView) → slot < length (way_slots dump.image) → Some row ≡ row_at dump slot → rows_from dump slot ≡ row ∷ later dump slot
 row_first dump slot row within is =
-    first_and_later dump slot within ∙ by_use (is_used (bytes_of dump slot)) (row_of dump (slot, bytes_of dump slot)) row (is ∙ row_there dump slot within) (later dump slot)
+    first_and_later dump slot within ∙ by_use (is_used (bytes_of dump slot)) (file_row_of dump (slot, bytes_of dump slot)) row (is ∙ row_there dump slot within) (later dump slot)
 
 -- if it has no row, the later ones are left
 pub row_later : (dump : DumpView) (slot : ℕ) → slot < length (way_slots dump.image) → None ≡ row_at dump slot → rows_from dump slot ≡ later dump slot
 row_later dump slot within is =
-    first_and_later dump slot within ∙ by_no_use (is_used (bytes_of dump slot)) (row_of dump (slot, bytes_of dump slot)) (is ∙ row_there dump slot within) (later dump slot)
+    first_and_later dump slot within ∙ by_no_use (is_used (bytes_of dump slot)) (file_row_of dump (slot, bytes_of dump slot)) (is ∙ row_there dump slot within) (later dump slot)
 
 -- those from the first slot on are all
 pub from_first : (dump : DumpView) → rows_from dump 0 ≡ rows dump

@@ -63,8 +63,8 @@ abbrev pub error_count : DumpView → Bytes → ℕ
 error_count dump cell = count_by (λ (error : ReadError). is_of_file dump.image cell error.block) (read_errors dump)
 
 -- the row of a numbered slot of a dump and its file
-unfoldable pub row_of : DumpView → ℕ × Bytes → FileRowView
-row_of dump slot = record {
+unfoldable pub file_row_of : DumpView → ℕ × Bytes → FileRowView
+file_row_of dump slot = record {
   slot = slot.0;
   field = field_of slot.1;
   kind = known_kind slot.1;
@@ -86,11 +86,11 @@ row_of dump slot = record {
 -- the row of the slot of this number; None if the directory's way has no such slot, or it isn't
 -- used
 abbrev pub row_at : DumpView → ℕ → Option FileRowView
-row_at dump slot = option_and_then (λ cell. if is_used cell then Some (row_of dump (slot, cell)) else None) (slot_cell dump.image slot)
+row_at dump slot = option_and_then (λ cell. if is_used cell then Some (file_row_of dump (slot, cell)) else None) (slot_cell dump.image slot)
 
 -- the rows of numbered slots of a dump: one for each that is used, in order
 abbrev pub rows_among : DumpView → List (ℕ × Bytes) → List FileRowView
-rows_among dump slots = map (row_of dump) (filter (λ (slot : ℕ × Bytes). is_used slot.1) slots)
+rows_among dump slots = map (file_row_of dump) (filter (λ (slot : ℕ × Bytes). is_used slot.1) slots)
 
 -- the rows of the slots of the directory's way from a number on
 abbrev pub rows_from : DumpView → ℕ → List FileRowView

@@ -7,7 +7,7 @@ ghost use Rattle.d64_survey.specs.Owners.{way_slots};
 ghost use Rattle.d64_survey.specs.Inspection.{slot_cell};
 ghost use Rattle.d64_survey.specs.declared.read_error.ReadError.{ReadError};
 ghost use Rattle.d64_inventory.specs.Contents.{digested_along};
-ghost use Rattle.d64_inventory.specs.Rows.{known_kind, record_length_by, row_of, row_at};
+ghost use Rattle.d64_inventory.specs.Rows.{known_kind, record_length_by, file_row_of, row_at};
 
 use crate::conditions::conditions;
 use crate::content_table::ContentTable;
@@ -143,7 +143,7 @@ impl<'a> Inventory<'a> {
     /// The row of an entry of the dump's image, or None if its slot isn't used.
     fn row_of_used(&mut self, entry: &Entry) -> Option<FileRow>
         requires { slot_cell self.old.image entry.now.slot ≡ Some entry.now.bytes }
-        ensures row { result ≡ (if is_used entry.now.bytes then Some (row_of self.old (entry.now.slot, entry.now.bytes)) else None) }
+        ensures row { result ≡ (if is_used entry.now.bytes then Some (file_row_of self.old (entry.now.slot, entry.now.bytes)) else None) }
         ensures same { self.new ≡ self.old }
     {
         if entry.used() {
@@ -156,7 +156,7 @@ impl<'a> Inventory<'a> {
     /// The row of an entry of the dump's image.
     fn row_of_entry(&mut self, entry: &Entry) -> FileRow
         requires { slot_cell self.old.image entry.now.slot ≡ Some entry.now.bytes }
-        ensures row { result ≡ row_of self.old (entry.now.slot, entry.now.bytes) }
+        ensures row { result ≡ file_row_of self.old (entry.now.slot, entry.now.bytes) }
         ensures same { self.new ≡ self.old }
     {
         let all = self.inspection;

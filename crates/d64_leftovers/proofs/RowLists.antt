@@ -8,8 +8,8 @@ use Rattle.std.proofs.lemmas.List.FromFn.{length-enumerate_from, get_or-enumerat
 use Rattle.std.proofs.lemmas.Option.{slice_get-get_or}
 use Rattle.d64_files.specs.Directory.{numbered_slots}
 use Rattle.d64_survey.specs.Owners.{way_slots}
-use Rattle.d64_leftovers.specs.Rows.{row_of_slot, row_of_left, blocks_wanted, rows}
-use Rattle.d64_leftovers.specs.Sources.{SourceView, row_at, rows_from, orphan_at, orphans_from}
+use Rattle.d64_leftovers.specs.Rows.{row_of_slot, row_of_left, blocks_wanted, wanted_rows}
+use Rattle.d64_leftovers.specs.Sources.{SourceView, wanted_row_at, wanted_rows_from, orphan_at, orphans_from}
 use Rattle.d64_leftovers.specs.declared.row.Row.{Row}
 
 -- ---- a list from a place on
@@ -27,7 +27,7 @@ abbrev slots_of : SourceView → List (List ℕ)
 slots_of source = way_slots source.dump.image
 
 -- past the last slot no row is left
-pub none_left : (source : SourceView) (slot : ℕ) → length (slots_of source) ≤ slot → rows_from source slot ≡ []
+pub none_left : (source : SourceView) (slot : ℕ) → length (slots_of source) ≤ slot → wanted_rows_from source slot ≡ []
 none_left source slot past =
     none_past (row_of_slot source.wanted source.dump) (numbered_slots (slots_of source)) slot
     (let long : length (numbered_slots (slots_of source)) ≤ slot = omega (arith, length-enumerate_from 0 (slots_of source)) in long)
@@ -38,10 +38,10 @@ row_there source slot = row_of_slot source.wanted source.dump (slot, get_or (slo
 
 -- the rows that are left after one slot
 abbrev later : SourceView → ℕ → List Row
-later source slot = rows_from source (slot + 1)
+later source slot = wanted_rows_from source (slot + 1)
 
 -- those from a slot on are its own, if it is wanted, and the later ones
-first_and_later : (source : SourceView) (slot : ℕ) → slot < length (slots_of source) → rows_from source slot ≡ cons_option (row_there source slot) (later source slot)
+first_and_later : (source : SourceView) (slot : ℕ) → slot < length (slots_of source) → wanted_rows_from source slot ≡ cons_option (row_there source slot) (later source slot)
 first_and_later source slot within =
     let cells = slots_of source in
     let long : slot < length (numbered_slots cells) = omega (arith, length-enumerate_from 0 cells) in
@@ -50,17 +50,17 @@ first_and_later source slot within =
     (get_or-enumerate_from 0 cells slot (0, []) within ∙ ap₂ (λ (n : ℕ) (b : List ℕ). (n, b)) (let e : 0 + slot ≡ slot = omega arith in e) refl)
 
 -- the row at a slot that is there
-row_is_there : (source : SourceView) (slot : ℕ) → slot < length (slots_of source) → row_at source slot ≡ row_there source slot
+row_is_there : (source : SourceView) (slot : ℕ) → slot < length (slots_of source) → wanted_row_at source slot ≡ row_there source slot
 row_is_there source slot within =
     ap (λ (c : Option (List ℕ)). option_and_then (λ cell. row_of_slot source.wanted source.dump (slot, cell)) c) (slice_get-get_or (slots_of source) slot [] within)
 
 -- a row at a slot is the first that is left
-pub row_first : (source : SourceView) (slot : ℕ) (row : Row) → slot < length (slots_of source) → Some row ≡ row_at source slot → rows_from source slot ≡ row ∷ later source slot
+pub row_first : (source : SourceView) (slot : ℕ) (row : Row) → slot < length (slots_of source) → Some row ≡ wanted_row_at source slot → wanted_rows_from source slot ≡ row ∷ later source slot
 row_first source slot row within is =
     first_and_later source slot within ∙ ap (λ (r : Option Row). cons_option r (later source slot)) (sym (is ∙ row_is_there source slot within))
 
 -- if there is none at a slot, the later ones are left
-pub row_later : (source : SourceView) (slot : ℕ) → slot < length (slots_of source) → None ≡ row_at source slot → rows_from source slot ≡ later source slot
+pub row_later : (source : SourceView) (slot : ℕ) → slot < length (slots_of source) → None ≡ wanted_row_at source slot → wanted_rows_from source slot ≡ later source slot
 row_later source slot within is =
     first_and_later source slot within ∙ ap (λ (r : Option Row). cons_option r (later source slot)) (sym (is ∙ row_is_there source slot within))
 
@@ -88,6 +88,6 @@ orphan_later source place within is = orphan_and_later source place within ∙ a
 -- ---- both
 
 -- those from the first slot and the first block on are all
-pub from_first : (source : SourceView) → rows_from source 0 ++ orphans_from source 0 ≡ rows source.wanted source.dump
-unfolding rows
+pub from_first : (source : SourceView) → wanted_rows_from source 0 ++ orphans_from source 0 ≡ wanted_rows source.wanted source.dump
+unfolding wanted_rows
 from_first source = refl

@@ -24,12 +24,12 @@ abbrev pub blocks_led_to : Disk → Bytes → Blocks
 blocks_led_to image cell = if is_used cell || is_scratched cell then (way image (first_pair cell)).0 else []
 
 -- a block has no owner, and no slot leads to it
-abbrev pub is_left : Disk → ℕ → Bool
-is_left image block = not (is_owned image block) && not (list_any (nat_eq block) (flat_map (blocks_led_to image) (way_slots image)))
+abbrev pub is_block_left : Disk → ℕ → Bool
+is_block_left image block = not (is_owned image block) && not (list_any (nat_eq block) (flat_map (blocks_led_to image) (way_slots image)))
 
 -- these blocks, rising
 unfoldable pub left_blocks : Disk → Blocks
-left_blocks image = filter (is_left image) (range_with_len 0 (length image))
+left_blocks image = filter (is_block_left image) (range_with_len 0 (length image))
 
 -- a block is one of them
 abbrev pub is_among_left : Disk → ℕ → Bool

@@ -10,7 +10,7 @@ use Rattle.d64_survey.specs.Dump.{DumpView}
 use Rattle.d64_survey.specs.Owners.{way_slots}
 use Rattle.d64_survey.specs.Inspection.{slot_cell}
 use Rattle.d64_scratched.specs.Scratched.{is_scratched}
-use Rattle.d64_inventory.specs.Rows.{row_of, rows as file_rows}
+use Rattle.d64_inventory.specs.Rows.{file_row_of, rows as file_rows}
 use Rattle.d64_leftovers.specs.Deleted.{deleted_row}
 use Rattle.d64_leftovers.specs.Orphans.{is_head, left_blocks, orphan_row}
 use Rattle.d64_leftovers.specs.declared.row.Row.{Row}
@@ -33,7 +33,7 @@ is_orphan (Orphan row) = true
 -- one, if it is scratched; None if it is neither, or that isn't wanted
 abbrev pub row_of_slot : Selection → DumpView → ℕ × Bytes → Option Row
 row_of_slot wanted dump slot =
-    if is_used slot.1 then (if wanted.files then Some (File (row_of dump slot)) else None)
+    if is_used slot.1 then (if wanted.files then Some (File (file_row_of dump slot)) else None)
     else (if wanted.deleted && is_scratched slot.1 then Some (Deleted (deleted_row dump slot)) else None)
 
 -- the row of a block of a dump that is left: that of the orphan whose head it is, if it is one
@@ -46,10 +46,10 @@ blocks_wanted wanted dump = if wanted.orphans then left_blocks dump.image else [
 
 -- the rows of a dump that are wanted: those of all slots of the directory's way, in their order, and
 -- then those of orphans by their heads, rising
-unfoldable pub rows : Selection → DumpView → List Row
-rows wanted dump =
+unfoldable pub wanted_rows : Selection → DumpView → List Row
+wanted_rows wanted dump =
     filter_map (row_of_slot wanted dump) (numbered_slots (way_slots dump.image)) ++ filter_map (row_of_left dump) (blocks_wanted wanted dump)
 
 -- where files alone are wanted, these are the rows of the inventory
 abbrev pub FilesAloneAreTheInventory : Type 0
-FilesAloneAreTheInventory = (dump : DumpView) → rows (record { files = true; deleted = false; orphans = false }) dump ≡ map File (file_rows dump)
+FilesAloneAreTheInventory = (dump : DumpView) → wanted_rows (record { files = true; deleted = false; orphans = false }) dump ≡ map File (file_rows dump)

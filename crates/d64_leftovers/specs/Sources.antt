@@ -17,12 +17,12 @@ pub record SourceView : Type 0 where
 
 -- the row of the slot of this number; None if the directory's way has no such slot, or the slot has
 -- no row that is wanted
-abbrev pub row_at : SourceView → ℕ → Option Row
-row_at source slot = option_and_then (λ cell. row_of_slot source.wanted source.dump (slot, cell)) (slot_cell source.dump.image slot)
+abbrev pub wanted_row_at : SourceView → ℕ → Option Row
+wanted_row_at source slot = option_and_then (λ cell. row_of_slot source.wanted source.dump (slot, cell)) (slot_cell source.dump.image slot)
 
 -- the rows of the slots of the directory's way from a number on
-abbrev pub rows_from : SourceView → ℕ → List Row
-rows_from source slot = filter_map (row_of_slot source.wanted source.dump) (drop slot (numbered_slots (way_slots source.dump.image)))
+abbrev pub wanted_rows_from : SourceView → ℕ → List Row
+wanted_rows_from source slot = filter_map (row_of_slot source.wanted source.dump) (drop slot (numbered_slots (way_slots source.dump.image)))
 
 -- the row of the block at a place among those that are left and wanted, if it is a head
 abbrev pub orphan_at : SourceView → ℕ → Option Row

@@ -7,7 +7,7 @@ ghost use Rattle.d64_image.specs.Block.{pair_at};
 ghost use Rattle.d64_files.specs.Chain.{LieIn};
 ghost use Rattle.d64_files.specs.Slot.{EntryView};
 ghost use Rattle.d64_survey.specs.Owners.{way_slots};
-ghost use Rattle.d64_leftovers.specs.Orphans.{blocks_led_to, blocks_linked, is_left, left_blocks};
+ghost use Rattle.d64_leftovers.specs.Orphans.{blocks_led_to, blocks_linked, is_block_left, left_blocks};
 
 use d64_files::{BlockList, Entry, Slots, block_in};
 use d64_image::{BlockNo, BlockSet, Image};

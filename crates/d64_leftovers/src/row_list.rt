@@ -1,8 +1,8 @@
 //! The rows of a dump that are wanted, one at a time.
 ghost use Rattle.std.specs.Prelude.{◌≡◌, ◌∷◌, ◌++◌, [], MatchOption};
 ghost use Rattle.std.specs.Iterator.{YieldsFirst, item_count};
-ghost use Rattle.d64_leftovers.specs.Rows.{rows};
-ghost use Rattle.d64_leftovers.specs.Sources.{rows_from, orphans_from};
+ghost use Rattle.d64_leftovers.specs.Rows.{wanted_rows};
+ghost use Rattle.d64_leftovers.specs.Sources.{wanted_rows_from, orphans_from};
 
 use crate::row::Row;
 use crate::selection::Selection;
@@ -39,17 +39,17 @@ pub struct RowList<'a> {
 
 impl<'a> Model for RowList<'a> {
     ghost use Rattle.std.specs.Prelude.{◌++◌, List};
-    ghost use Rattle.d64_leftovers.specs.Sources.{rows_from, orphans_from};
+    ghost use Rattle.d64_leftovers.specs.Sources.{wanted_rows_from, orphans_from};
     ghost use Rattle.d64_leftovers.specs.declared.row.Row.{Row};
 
     ghost Value = { List Row };
 
-    ghost view = { λ list. rows_from list.source list.slot ++ orphans_from list.source list.left };
+    ghost view = { λ list. wanted_rows_from list.source list.slot ++ orphans_from list.source list.left };
 }
 
 /// The first row of a slot from a place on, or None if no slot from there on has one.
 fn first_from(source: &mut Source, place: usize) -> Option<Found>
-    ensures found { MatchOption result (rows_from source.old place ≡ []) (λ found. rows_from source.old place ≡ found.row ∷ rows_from source.old found.next) }
+    ensures found { MatchOption result (wanted_rows_from source.old place ≡ []) (λ found. wanted_rows_from source.old place ≡ found.row ∷ wanted_rows_from source.old found.next) }
     ensures same { source.new ≡ source.old }
 {
     for at in place..source.slot_count() {
@@ -78,7 +78,7 @@ fn orphan_from(source: &mut Source, place: usize) -> Option<Found>
 /// Returns the first row of an orphan that is left, with the place after the last slot, or None if
 /// no orphan is left.
 fn orphan_step(source: &mut Source, left: usize) -> Option<Step>
-    ensures found { MatchOption result (orphans_from source.old left ≡ []) (λ step. orphans_from source.old left ≡ step.row ∷ (rows_from source.old step.slot ++ orphans_from source.old step.left)) }
+    ensures found { MatchOption result (orphans_from source.old left ≡ []) (λ step. orphans_from source.old left ≡ step.row ∷ (wanted_rows_from source.old step.slot ++ orphans_from source.old step.left)) }
     ensures same { source.new ≡ source.old }
 {
     let slot = source.slot_count();
@@ -94,7 +94,7 @@ fn orphan_step(source: &mut Source, left: usize) -> Option<Step>
 
 /// The first row of those that are left.
 fn first_step(source: &mut Source, slot: usize, left: usize) -> Option<Step>
-    ensures found { MatchOption result (rows_from source.old slot ++ orphans_from source.old left ≡ []) (λ step. rows_from source.old slot ++ orphans_from source.old left ≡ step.row ∷ (rows_from source.old step.slot ++ orphans_from source.old step.left)) }
+    ensures found { MatchOption result (wanted_rows_from source.old slot ++ orphans_from source.old left ≡ []) (λ step. wanted_rows_from source.old slot ++ orphans_from source.old left ≡ step.row ∷ (wanted_rows_from source.old step.slot ++ orphans_from source.old step.left)) }
     ensures same { source.new ≡ source.old }
 {
     match first_from(source, slot) {
@@ -110,7 +110,7 @@ fn first_step(source: &mut Source, slot: usize, left: usize) -> Option<Step>
 impl<'a> RowList<'a> {
     /// Returns the wanted rows of a dump that was inspected.
     pub fn of(inspection: &'a Inspection<'a>, wanted: Selection) -> RowList<'a>
-        ensures { result ≡ rows wanted inspection.now }
+        ensures { result ≡ wanted_rows wanted inspection.now }
     {
         RowList {
             source: Source::of(inspection, wanted),

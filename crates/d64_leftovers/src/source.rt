@@ -4,10 +4,10 @@ ghost use Rattle.d64_files.specs.Slot.{is_used};
 ghost use Rattle.d64_survey.specs.Owners.{way_slots};
 ghost use Rattle.d64_survey.specs.Inspection.{slot_cell};
 ghost use Rattle.d64_scratched.specs.Scratched.{is_scratched};
-ghost use Rattle.d64_inventory.specs.Rows.{row_of};
+ghost use Rattle.d64_inventory.specs.Rows.{file_row_of};
 ghost use Rattle.d64_leftovers.specs.Deleted.{deleted_row};
 ghost use Rattle.d64_leftovers.specs.Rows.{row_of_slot, blocks_wanted};
-ghost use Rattle.d64_leftovers.specs.Sources.{row_at, orphan_at};
+ghost use Rattle.d64_leftovers.specs.Sources.{wanted_row_at, orphan_at};
 ghost use Rattle.d64_leftovers.specs.declared.row.Row.TheVariants.{File, Deleted};
 
 use crate::deleted_files::DeletedFiles;
@@ -111,7 +111,7 @@ impl<'a> Source<'a> {
     fn file_row(&mut self, entry: &Entry) -> Option<Row>
         requires slot { slot_cell self.old.dump.image entry.now.slot ≡ Some entry.now.bytes }
         requires used { is_used entry.now.bytes ≡ true }
-        ensures row { result ≡ (if self.old.wanted.files then Some (File (row_of self.old.dump (entry.now.slot, entry.now.bytes))) else None) }
+        ensures row { result ≡ (if self.old.wanted.files then Some (File (file_row_of self.old.dump (entry.now.slot, entry.now.bytes))) else None) }
         ensures same { self.new ≡ self.old }
     {
         if !self.with_files {
@@ -157,7 +157,7 @@ impl<'a> Source<'a> {
     /// Returns the row of a slot, or None if the directory's way has no such slot, or the slot has
     /// no row that is wanted.
     pub(crate) fn row(&mut self, slot: SlotNo) -> Option<Row>
-        ensures row { result ≡ row_at self.old slot }
+        ensures row { result ≡ wanted_row_at self.old slot }
         ensures same { self.new ≡ self.old }
     {
         match self.inspection.survey().entry(slot) {

@@ -2,25 +2,25 @@
 use Rattle.std.proofs.Common.{◌≡◌, ℕ, ◌+◌, ◌-◌, ◌*◌, ◌/◌, ◌%◌, ◌<◌, ◌≤◌, ◌==◌, ◌&&◌, ◌⊎◌, true, false, leb, ltb, sym, ap, ◌∙◌, inl, inr, arith}
 use Rattle.std.proofs.lemmas.Bool.{cases_lt, and_parts, and_from, or_cases, or_left, or_right, eq-eqb, eqb-true, leb-true, ltb-true, le-leb, lt-ltb, le-ltb, cond-true, cond-false}
 use Rattle.d64_image.specs.Image.{IsSize, tracks_of}
-use Rattle.d64_map.specs.Map.{entry_of, IsOfTrack, entry_track, is_entry}
+use Rattle.d64_map.specs.Map.{map_entry_place, IsOfTrack, entry_track, is_entry}
 
-pub entry_of-low : (track : ℕ) → track < 36 → entry_of track ≡ 4 * track
-unfolding entry_of
+pub entry_of-low : (track : ℕ) → track < 36 → map_entry_place track ≡ 4 * track
+unfolding map_entry_place
 entry_of-low track h = cond-true _ _ _ (lt-ltb track 36 h)
 
-pub entry_of-high : (track : ℕ) → 36 ≤ track → entry_of track ≡ 4 * track + 48
-unfolding entry_of
+pub entry_of-high : (track : ℕ) → 36 ≤ track → map_entry_place track ≡ 4 * track + 48
+unfolding map_entry_place
 entry_of-high track h = cond-false _ _ _ (le-ltb track 36 h)
 
 -- the entries are counted by fours
-pub entry_of-four : (track : ℕ) → entry_of track % 4 ≡ 0
+pub entry_of-four : (track : ℕ) → map_entry_place track % 4 ≡ 0
 entry_of-four track = elim (cases_lt track 36) [
   | inl low ↦ let e = entry_of-low track low in omega arith
   | inr high ↦ let e = entry_of-high track high in omega arith
 ]
 
 -- an entry ends before the next one begins
-pub entry_apart : (track other : ℕ) → track < other → entry_of track + 4 ≤ entry_of other
+pub entry_apart : (track other : ℕ) → track < other → map_entry_place track + 4 ≤ map_entry_place other
 entry_apart track other h = elim (cases_lt track 36) [
   | inl low ↦ let e = entry_of-low track low in
       elim (cases_lt other 36) [
@@ -31,27 +31,27 @@ entry_apart track other h = elim (cases_lt track 36) [
 ]
 
 -- the last entry ends before the map's block does
-pub entry_below : (track : ℕ) → track < 41 → entry_of track ≤ 208
+pub entry_below : (track : ℕ) → track < 41 → map_entry_place track ≤ 208
 entry_below track h = elim (cases_lt track 36) [
   | inl low ↦ let e = entry_of-low track low in omega arith
   | inr high ↦ let e = entry_of-high track high in omega arith
 ]
 
 -- the first one begins after the four bytes before the map
-pub entry_above : (track : ℕ) → 1 ≤ track → 4 ≤ entry_of track
+pub entry_above : (track : ℕ) → 1 ≤ track → 4 ≤ map_entry_place track
 entry_above track h = elim (cases_lt track 36) [
   | inl low ↦ let e = entry_of-low track low in omega arith
   | inr high ↦ let e = entry_of-high track high in omega arith
 ]
 
 -- a place of an entry is one of that track
-pub entry_track-of : (track part : ℕ) → track < 41 → part < 4 → entry_track (entry_of track + part) ≡ track
+pub entry_track-of : (track part : ℕ) → track < 41 → part < 4 → entry_track (map_entry_place track + part) ≡ track
 unfolding entry_track
 entry_track-of track part h k = elim (cases_lt track 36) [
   | inl low ↦ let e = entry_of-low track low in
-      cond-true _ _ _ (lt-ltb (entry_of track + part) 192 (omega arith)) ∙ omega arith
+      cond-true _ _ _ (lt-ltb (map_entry_place track + part) 192 (omega arith)) ∙ omega arith
   | inr high ↦ let e = entry_of-high track high in
-      cond-false _ _ _ (le-ltb (entry_of track + part) 192 (omega arith)) ∙ omega arith
+      cond-false _ _ _ (le-ltb (map_entry_place track + part) 192 (omega arith)) ∙ omega arith
 ]
 
 -- a disk has 35 tracks or 40

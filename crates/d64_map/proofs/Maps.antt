@@ -20,7 +20,7 @@ use Rattle.d64_image.proofs.Zones.{Placed, placed}
 use Rattle.d64_image.proofs.Sizes.{size_least, size_most, tracks_most, tracks_counted}
 use Rattle.d64_image.proofs.Pairs.{pair_at-counted}
 use Rattle.d64_map.specs.Track.{has_sector, blocks_on, members_on}
-use Rattle.d64_map.specs.Map.{map_block, entry_of, IsOfTrack, is_free, free_blocks, CountsFit, bits_for, entry_track, map_byte, is_entry, map_for, with_map}
+use Rattle.d64_map.specs.Map.{map_block, map_entry_place, IsOfTrack, is_free, free_blocks, CountsFit, bits_for, entry_track, map_byte, is_entry, map_for, with_map}
 use Rattle.d64_map.proofs.Sectors.{has_sector-legal}
 use Rattle.d64_map.proofs.Entries.{entry_of-four, entry_below, entry_track-of, HasTracks, has_tracks, entry}
 use Rattle.d64_map.proofs.FreeBlocks.{contains-free_blocks, contains-free_blocks-past}
@@ -49,11 +49,11 @@ at_place tracks bytes free place h =
     get_or-map-range_with_len (λ k. cond (is_entry tracks k) (map_byte free k) (get_or bytes k 0)) 0 256 place place 0 h (omega arith)
 
 pub at_entry : (tracks track part : ℕ) (bytes : List ℕ) (free : set.FinSet nat_cmp) → HasTracks tracks → 1 ≤ track → track ≤ tracks → track < 41 → part < 4
-    → get_or (map_for tracks bytes free) (entry_of track + part) 0 ≡ map_byte free (entry_of track + part)
+    → get_or (map_for tracks bytes free) (map_entry_place track + part) 0 ≡ map_byte free (map_entry_place track + part)
 at_entry tracks track part bytes free has one last few h =
     let below = entry_below track few in
-    at_place tracks bytes free (entry_of track + part) (omega arith)
-    ∙ cond-true (is_entry tracks (entry_of track + part)) _ _ (entry tracks track (entry_of track + part) has one last (omega arith, omega arith))
+    at_place tracks bytes free (map_entry_place track + part) (omega arith)
+    ∙ cond-true (is_entry tracks (map_entry_place track + part)) _ _ (entry tracks track (map_entry_place track + part) has one last (omega arith, omega arith))
 
 pub elsewhere : (tracks : ℕ) (bytes : List ℕ) (free : set.FinSet nat_cmp) (place : ℕ) → length bytes ≡ 256 → is_entry tracks place ≡ false
     → get_or (map_for tracks bytes free) place 0 ≡ get_or bytes place 0
@@ -88,27 +88,27 @@ has_map image long =
     ]
 
 -- the byte of a track's count, and those of its bits
-pub map_byte-count : (free : set.FinSet nat_cmp) (track place : ℕ) → track < 41 → place ≡ entry_of track → map_byte free place ≡ members_on free track
+pub map_byte-count : (free : set.FinSet nat_cmp) (track place : ℕ) → track < 41 → place ≡ map_entry_place track → map_byte free place ≡ members_on free track
 unfolding map_byte
 map_byte-count free track place few e =
     let four = entry_of-four track in
     let r : place % 4 ≡ 0 = omega arith in
-    let z : place ≡ entry_of track + 0 = omega arith in
+    let z : place ≡ map_entry_place track + 0 = omega arith in
     let q : entry_track place ≡ track = ap entry_track z ∙ entry_track-of track 0 few (omega arith) in
     cond-true _ _ _ (eq-eqb (place % 4) 0 r) ∙ ap (members_on free) q
 
-pub map_byte-bits : (free : set.FinSet nat_cmp) (track part place : ℕ) → track < 41 → part < 3 → place ≡ entry_of track + 1 + part → map_byte free place ≡ bits_for free track (8 * part)
+pub map_byte-bits : (free : set.FinSet nat_cmp) (track part place : ℕ) → track < 41 → part < 3 → place ≡ map_entry_place track + 1 + part → map_byte free place ≡ bits_for free track (8 * part)
 unfolding map_byte
 map_byte-bits free track part place last few e =
     let four = entry_of-four track in
     let r : place % 4 ≡ part + 1 = omega arith in
-    let z : place ≡ entry_of track + (1 + part) = omega arith in
+    let z : place ≡ map_entry_place track + (1 + part) = omega arith in
     let q : entry_track place ≡ track = ap entry_track z ∙ entry_track-of track (1 + part) last (omega arith) in
     let p : place % 4 - 1 ≡ part = omega arith in
     cond-false _ _ _ (ne_eqb (place % 4) 0 (λ z. omega arith)) ∙ ap (λ (t : ℕ). bits_for free t (8 * (place % 4 - 1))) q ∙ ap (λ (k : ℕ). bits_for free track (8 * k)) p
 
 -- a track's entry after its four bytes were written, the count first
-pub entry_written : (xs : List ℕ) (free : set.FinSet nat_cmp) (track entry count low middle high : ℕ) → length xs ≡ 256 → track < 41 → entry ≡ entry_of track
+pub entry_written : (xs : List ℕ) (free : set.FinSet nat_cmp) (track entry count low middle high : ℕ) → length xs ≡ 256 → track < 41 → entry ≡ map_entry_place track
     → count ≡ members_on free track → low ≡ bits_for free track 0 → middle ≡ bits_for free track 8 → high ≡ bits_for free track 16
     → (place : ℕ) → IsOfTrack track place
     → get_or (slice_set (slice_set (slice_set (slice_set xs entry count) (entry + 1) low) (entry + 2) middle) (entry + 3) high) place 0 ≡ map_byte free place
@@ -189,12 +189,12 @@ is_free-with_map image free block size h =
     let few = sectors_few track in
     let held : sector < sectors_on track = p.held in
     let part : sector / 8 < 3 = omega arith in
-    let place : entry_of track + 1 + sector / 8 ≡ entry_of track + (1 + sector / 8) = omega arith in
-    let byte : get_or (sector_at (with_map image free) map_block) (entry_of track + 1 + sector / 8) 0 ≡ bits_for free track (8 * (sector / 8)) =
-    ap (λ (x : List ℕ). get_or x (entry_of track + 1 + sector / 8) 0) (sector_at-with_map image free (omega arith))
+    let place : map_entry_place track + 1 + sector / 8 ≡ map_entry_place track + (1 + sector / 8) = omega arith in
+    let byte : get_or (sector_at (with_map image free) map_block) (map_entry_place track + 1 + sector / 8) 0 ≡ bits_for free track (8 * (sector / 8)) =
+    ap (λ (x : List ℕ). get_or x (map_entry_place track + 1 + sector / 8) 0) (sector_at-with_map image free (omega arith))
     ∙ ap (λ (k : ℕ). get_or (map_for tracks (sector_at image map_block) free) k 0) place
     ∙ at_entry tracks track (1 + sector / 8) (sector_at image map_block) free (has_tracks (length image) size) p.from_one (track_within (length image) block size h) p.within (omega arith)
-    ∙ map_byte-bits free track (sector / 8) (entry_of track + (1 + sector / 8)) p.within part (sym place) in
+    ∙ map_byte-bits free track (sector / 8) (map_entry_place track + (1 + sector / 8)) p.within part (sym place) in
     let whole : 8 * (sector / 8) + sector % 8 ≡ sector = omega arith in
     ap (λ (n : ℕ). nat_eq (bit_at n (sector % 8)) 1) byte
     ∙ ap (λ (n : ℕ). nat_eq n 1) (bit_at-bits_for free track (8 * (sector / 8)) (sector % 8) (omega arith))
@@ -219,11 +219,11 @@ counts-with_map image free size legal = record {
       let least = size_least (length image) size in
       let most = tracks_most (length image) size in
       let within : track ≤ tracks_of (length image) = subst (λ (n : ℕ). track ≤ tracks_of n) (length-with_map image free) last in
-      let place : entry_of track ≡ entry_of track + 0 = omega arith in
-      ap (λ (x : List ℕ). get_or x (entry_of track) 0) (sector_at-with_map image free (omega arith))
+      let place : map_entry_place track ≡ map_entry_place track + 0 = omega arith in
+      ap (λ (x : List ℕ). get_or x (map_entry_place track) 0) (sector_at-with_map image free (omega arith))
       ∙ ap (λ (k : ℕ). get_or (map_for (tracks_of (length image)) (sector_at image map_block) free) k 0) place
       ∙ at_entry (tracks_of (length image)) track 0 (sector_at image map_block) free (has_tracks (length image) size) one within (omega arith) (omega arith)
-      ∙ map_byte-count free track (entry_of track + 0) (omega arith) (sym place)
+      ∙ map_byte-count free track (map_entry_place track + 0) (omega arith) (sym place)
       ∙ ap (λ (s : set.FinSet nat_cmp). members_on s track) (sym (free_blocks-with_map image free size legal));
 }
 

@@ -12,7 +12,7 @@ use Rattle.std.proofs.lemmas.Nat.{pow_pos, mod-pow-add, pow-add, ones_cat}
 use Rattle.std.proofs.lemmas.Nat.Bits.{bit_at_cat_low, bit_at_cat_high, bit_at-lt}
 use Rattle.d64_image.specs.Block.{sectors_on, first_block}
 use Rattle.d64_map.specs.Track.{has_sector, blocks_on, members_on}
-use Rattle.d64_map.specs.Map.{entry_of, bit_in, bits_for}
+use Rattle.d64_map.specs.Map.{map_entry_place, bit_in, bits_for}
 use Rattle.d64_map.proofs.Ranges.{count_by-range_push, sum_by-range_push}
 use Rattle.d64_map.proofs.Sectors.{has_sector-legal}
 use Rattle.d64_map.proofs.Bits.{value_of, sum_below, bit_at-sum, bit_test, byte_below}
@@ -23,16 +23,16 @@ three_bytes : (a b c : ℕ) → from_le_bytes w32 (a ∷ b ∷ c ∷ 0 ∷ []) �
 three_bytes a b c = omega arith
 
 -- a bit of the map is one of a byte
-in_byte : (bytes : List ℕ) (track sector part bit byte : ℕ) → sector / 8 ≡ part → sector % 8 ≡ bit → byte ≡ get_or bytes (entry_of track + 1 + part) 0
+in_byte : (bytes : List ℕ) (track sector part bit byte : ℕ) → sector / 8 ≡ part → sector % 8 ≡ bit → byte ≡ get_or bytes (map_entry_place track + 1 + part) 0
     → bit_at byte bit ≡ bit_in bytes track sector
 in_byte bytes track sector part bit byte p b e =
     ap (λ (n : ℕ). bit_at n bit) e
-    ∙ ap (λ (k : ℕ). bit_at (get_or bytes (entry_of track + 1 + k) 0) bit) (sym p)
-    ∙ ap (λ (k : ℕ). bit_at (get_or bytes (entry_of track + 1 + sector / 8) 0) k) (sym b)
+    ∙ ap (λ (k : ℕ). bit_at (get_or bytes (map_entry_place track + 1 + k) 0) bit) (sym p)
+    ∙ ap (λ (k : ℕ). bit_at (get_or bytes (map_entry_place track + 1 + sector / 8) 0) k) (sym b)
 
 -- the bits of a track's three bytes
 pub bytes_read : (bytes : List ℕ) (track sector a b c : ℕ) → a < 256 → b < 256
-    → a ≡ get_or bytes (entry_of track + 1 + 0) 0 → b ≡ get_or bytes (entry_of track + 1 + 1) 0 → c ≡ get_or bytes (entry_of track + 1 + 2) 0
+    → a ≡ get_or bytes (map_entry_place track + 1 + 0) 0 → b ≡ get_or bytes (map_entry_place track + 1 + 1) 0 → c ≡ get_or bytes (map_entry_place track + 1 + 2) 0
     → sector < 24 → bit_at (from_le_bytes w32 (a ∷ b ∷ c ∷ 0 ∷ [])) sector ≡ bit_in bytes track sector
 bytes_read bytes track sector a b c low_fits middle_fits e f g short =
     ap (λ (n : ℕ). bit_at n sector) (three_bytes a b c)

@@ -17,21 +17,21 @@ map_block = 357
 
 -- where a track's entry of four bytes begins in the map's block: from $04 on, and from $C0 on for
 -- tracks 36 to 40
-unfoldable pub entry_of : ℕ → ℕ
-entry_of track = if nat_lt track 36 then 4 * track else 4 * track + 0x30
+unfoldable pub map_entry_place : ℕ → ℕ
+map_entry_place track = if nat_lt track 36 then 4 * track else 4 * track + 0x30
 
 -- a place belongs to a track's entry
 abbrev pub IsOfTrack : ℕ → ℕ → Type 0
-IsOfTrack track place = (entry_of track ≤ place) × (place < entry_of track + 4)
+IsOfTrack track place = (map_entry_place track ≤ place) × (place < map_entry_place track + 4)
 
 -- the count byte of a track, the first of its four bytes in the map
 abbrev pub count_of : Disk → ℕ → ℕ
-count_of image track = slice_index (sector_at image map_block) (entry_of track)
+count_of image track = slice_index (sector_at image map_block) (map_entry_place track)
 
 -- the bit of a sector in the map's block: in the three bytes after its track's count, eight sectors
 -- a byte
 abbrev pub bit_in : Bytes → ℕ → ℕ → ℕ
-bit_in bytes track sector = bit_at (slice_index bytes (entry_of track + 1 + sector / 8)) (sector % 8)
+bit_in bytes track sector = bit_at (slice_index bytes (map_entry_place track + 1 + sector / 8)) (sector % 8)
 
 -- the bit of a sector in an image
 abbrev pub bit_of : Disk → ℕ → ℕ → ℕ

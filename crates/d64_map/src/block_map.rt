@@ -7,7 +7,7 @@ ghost use Rattle.d64_image.specs.BlockSet.{MembersAreBelow};
 ghost use Rattle.d64_image.specs.Image.{IsBlock, IsSize, tracks_of, sector_at};
 ghost use Rattle.d64_image.specs.Patch.{StillRestores};
 ghost use Rattle.d64_map.specs.Track.{members_on};
-ghost use Rattle.d64_map.specs.Map.{map_block, entry_of, IsOfTrack, count_of, bit_in, is_free, free_below, free_blocks, NoneIsFreeBetween, blocks_free, CountsFit, map_byte, with_map};
+ghost use Rattle.d64_map.specs.Map.{map_block, map_entry_place, IsOfTrack, count_of, bit_in, is_free, free_below, free_blocks, NoneIsFreeBetween, blocks_free, CountsFit, map_byte, with_map};
 
 use crate::tracks::{DIRECTORY_TRACK, first_block, member_bits, sector_mask};
 use d64_image::{BLOCK_BYTES, BlockNo, BlockSet, Image, Patch};
@@ -39,7 +39,7 @@ fn map_of(image: &Image) -> &[u8; BLOCK_BYTES]
 /// Where a track's entry of four bytes begins in the map's block.
 fn entry_of(track: u8) -> usize
     requires { track < 41 }
-    ensures place { result ≡ entry_of track }
+    ensures place { result ≡ map_entry_place track }
     ensures within { result ≤ 208 }
 {
     let place = 4 * usize::from(track);

@@ -13,7 +13,7 @@ use Rattle.d64_survey.specs.Dump.{DumpView, IsDump, HasCodes}
 use Rattle.d64_survey.specs.ReadErrors.{code_of}
 use Rattle.d64_merge.specs.Copies.{has_block, is_good, has_bad_checksum, agree, good_count, votes, wins}
 use Rattle.d64_merge.specs.Choices.{are_equal, dump_at, has_codes, outcome, source, choice, code_source, code_in, merged_code}
-use Rattle.d64_merge.specs.Merged.{has_40_tracks, block_count, choices, is_outcome, count_of, merged_image, merged_codes, dump_by, dump_of_choices, merged}
+use Rattle.d64_merge.specs.Merged.{has_40_tracks, merged_block_count, choices, is_outcome, outcome_count, merged_image, merged_codes, dump_by, dump_of_choices, merged}
 use Rattle.d64_merge.specs.Laws.{EqualDumpsMakeThatDump}
 use Rattle.d64_merge.specs.declared.choice.Choice.{Choice}
 use Rattle.d64_merge.specs.declared.outcome.Preference.{Preference}
@@ -143,23 +143,23 @@ module _ (preference : Preference) (n : ℕ) (dump : DumpView) (is_dump : IsDump
   abbrev all : List DumpView
   all = replicate (suc n) dump
 
-  same_size : block_count all ≡ length dump.image
+  same_size : merged_block_count all ≡ length dump.image
   same_size = ap (λ (b : Bool). count_of_tracks (if b then 40 else 35)) (any_equal has_40_tracks n dump) ∙ size_is (length dump.image) is_dump.0.0
 
-  at_block : (block : ℕ) → block < block_count all → Kept preference n dump block
+  at_block : (block : ℕ) → block < merged_block_count all → Kept preference n dump block
   at_block block within = let size = same_size in kept preference n dump block (lt-ltb _ _ (omega (arith, within, size)))
 
   same_image : merged_image all (choices preference all) ≡ dump.image
   same_image =
       let size = image_size preference all in
       ext_get_or [] (merged_image all (choices preference all)) dump.image (size ∙ same_size)
-      (λ i h. let within : i < block_count all = omega (arith, h, size) in sector_is preference all i within ∙ (at_block i within).bytes)
+      (λ i h. let within : i < merged_block_count all = omega (arith, h, size) in sector_is preference all i within ∙ (at_block i within).bytes)
 
-  codes_length : length (merged_codes (choices preference all)) ≡ block_count all
+  codes_length : length (merged_codes (choices preference all)) ≡ merged_block_count all
   unfolding choices
   codes_length =
-      ap length (map-map (λ (c : Choice). c.code) (choice preference all) (range_with_len 0 (block_count all)))
-      ∙ length-map-range_with_len (λ b. (choice preference all b).code) 0 (block_count all)
+      ap length (map-map (λ (c : Choice). c.code) (choice preference all) (range_with_len 0 (merged_block_count all)))
+      ∙ length-map-range_with_len (λ b. (choice preference all b).code) 0 (merged_block_count all)
 
   same_codes : (codes : Option (List ℕ)) → dump.codes ≡ codes → HasCodes dump.image codes → (if is_some codes then Some (merged_codes (choices preference all)) else None) ≡ codes
   same_codes None is has = refl
@@ -167,12 +167,12 @@ module _ (preference : Preference) (n : ℕ) (dump : DumpView) (is_dump : IsDump
       let size = codes_length in
       ap (λ (list : List ℕ). Some list)
       (ext_get_or 0 (merged_codes (choices preference all)) codes (size ∙ same_size ∙ sym has)
-      (λ i h. let within : i < block_count all = omega (arith, h, size) in
+      (λ i h. let within : i < merged_block_count all = omega (arith, h, size) in
       code_is preference all i within ∙ (at_block i within).code ∙ ap (λ (c : Option (List ℕ)). code_of c i) is))
 
-  no_conflicts : count_of Conflict (choices preference all) ≡ 0
+  no_conflicts : outcome_count Conflict (choices preference all) ≡ 0
   no_conflicts =
-      let count = block_count all in
+      let count = merged_block_count all in
       counted_never Conflict preference all (λ k d h.
       let within : k < count = let e = length-range_with_len 0 count in omega (arith, e, h) in
       ap (λ (b : ℕ). is_outcome Conflict (choice preference all b).outcome) (get_or-range_with_len 0 count k d within ∙ omega arith)

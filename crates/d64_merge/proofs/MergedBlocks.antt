@@ -16,7 +16,7 @@ use Rattle.d64_survey.specs.Dump.{DumpView, IsDump, HasCodes, code_bytes, is_rea
 use Rattle.d64_survey.specs.ReadErrors.{code_of}
 use Rattle.d64_merge.specs.Copies.{has_block, known_code, is_good, has_bad_checksum, agree, good_count, votes, wins}
 use Rattle.d64_merge.specs.Choices.{are_equal, dump_at, has_codes, outcome, source, choice, code_source, code_in, merged_code}
-use Rattle.d64_merge.specs.Merged.{has_40_tracks, block_count, choices, is_outcome, count_of, taken_bytes, merged_image, merged_codes, keeps_codes, dump_by, dump_of_choices, merged}
+use Rattle.d64_merge.specs.Merged.{has_40_tracks, merged_block_count, choices, is_outcome, outcome_count, taken_bytes, merged_image, merged_codes, keeps_codes, dump_by, dump_of_choices, merged}
 use Rattle.d64_merge.specs.Laws.{IsIn, EachBlockIsADumps, ErrorsOnlyWhereAllAreLost}
 use Rattle.d64_merge.specs.declared.choice.Choice.{Choice}
 use Rattle.d64_merge.specs.declared.outcome.Preference.{Preference}
@@ -30,18 +30,18 @@ use Rattle.d64_merge.proofs.MergedOrders.{made_tells, outcome_is, apart_is, tell
 
 -- ---- the block of a merged dump
 
-pub image_size : (preference : Preference) (dumps : List DumpView) → length (merged_image dumps (choices preference dumps)) ≡ block_count dumps
+pub image_size : (preference : Preference) (dumps : List DumpView) → length (merged_image dumps (choices preference dumps)) ≡ merged_block_count dumps
 unfolding merged_image choices
 image_size preference dumps =
-    ap length (map-map (taken_bytes dumps) (choice preference dumps) (range_with_len 0 (block_count dumps)))
-    ∙ length-map-range_with_len (λ block. taken_bytes dumps (choice preference dumps block)) 0 (block_count dumps)
+    ap length (map-map (taken_bytes dumps) (choice preference dumps) (range_with_len 0 (merged_block_count dumps)))
+    ∙ length-map-range_with_len (λ block. taken_bytes dumps (choice preference dumps block)) 0 (merged_block_count dumps)
 
-pub sector_is : (preference : Preference) (dumps : List DumpView) (block : ℕ) → block < block_count dumps
+pub sector_is : (preference : Preference) (dumps : List DumpView) (block : ℕ) → block < merged_block_count dumps
     → sector_at (merged_image dumps (choices preference dumps)) block ≡ bytes_in block (dump_at dumps (source (outcome preference block dumps) block dumps))
 unfolding merged_image choices choice
 sector_is preference dumps block within =
-    ap (λ (image : List (List ℕ)). sector_at image block) (map-map (taken_bytes dumps) (choice preference dumps) (range_with_len 0 (block_count dumps)))
-    ∙ get_or-map-range_with_len (λ block. taken_bytes dumps (choice preference dumps block)) 0 (block_count dumps) block block [] within (omega arith)
+    ap (λ (image : List (List ℕ)). sector_at image block) (map-map (taken_bytes dumps) (choice preference dumps) (range_with_len 0 (merged_block_count dumps)))
+    ∙ get_or-map-range_with_len (λ block. taken_bytes dumps (choice preference dumps block)) 0 (merged_block_count dumps) block block [] within (omega arith)
 
 -- ---- the dump that is taken
 
@@ -140,7 +140,7 @@ lacks_none block (dump ∷ dumps) some are none true is within =
     let wrong : true ≡ false = sym is ∙ none_passes has_40_tracks all (λ k d h. small_has_35 (length (slice_index_or all k d).image) block (are k d h).0.0 (not_below block _ (none k d h)) within) in
     true≢false wrong
 
-any_there : (block : ℕ) (dumps : List DumpView) → dumps ≢ [] → All IsDump dumps → block < block_count dumps → list_any (has_block block) dumps ≡ true
+any_there : (block : ℕ) (dumps : List DumpView) → dumps ≢ [] → All IsDump dumps → block < merged_block_count dumps → list_any (has_block block) dumps ≡ true
 any_there block dumps some are within = go (list_any (has_block block) dumps) refl
   where
     go : (t : Bool) → list_any (has_block block) dumps ≡ t → list_any (has_block block) dumps ≡ true
@@ -165,7 +165,7 @@ module _ (preference : Preference) (dumps : List DumpView) (block : ℕ) where
   good_placed : (good_count block dumps == 0) ≡ false → IsIn dumps block (bytes_in block (dump_at dumps (position (is_good block) dumps)))
   good_placed none = placed_in block dumps (is_good block) (λ k d h. good_is_there block _) (some_good block dumps (not_none _ none))
 
-  lost_placed : dumps ≢ [] → All IsDump dumps → block < block_count dumps
+  lost_placed : dumps ≢ [] → All IsDump dumps → block < merged_block_count dumps
       → IsIn dumps block (bytes_in block (dump_at dumps (option_or (position (has_bad_checksum block) dumps) (position (has_block block) dumps))))
   lost_placed some are within = elim (place_cases (has_bad_checksum block) dumps) [
     | inl found_bad ↦
@@ -180,7 +180,7 @@ module _ (preference : Preference) (dumps : List DumpView) (block : ℕ) where
         (placed_in block dumps (has_block block) (λ k d h is. is) (any_there block dumps some are within))
   ]
 
-  in_by : dumps ≢ [] → All IsDump dumps → block < block_count dumps → (became : Outcome) → outcome preference block dumps ≡ became → is_outcome Conflict became ≡ false
+  in_by : dumps ≢ [] → All IsDump dumps → block < merged_block_count dumps → (became : Outcome) → outcome preference block dumps ≡ became → is_outcome Conflict became ≡ false
       → IsIn dumps block (bytes_in block (dump_at dumps (source became block dumps)))
   unfolding source
   in_by some are within Same is h = good_placed (tells_same preference (good_count block dumps == 0) (are_equal block dumps) (good_count block dumps == length dumps) (list_any (wins block dumps) dumps) (counts Same is)).0
@@ -194,20 +194,20 @@ module _ (preference : Preference) (dumps : List DumpView) (block : ℕ) where
 
 -- no block of a merged dump is in conflict
 no_conflict : (preference : Preference) (plain : Bool) (dumps : List DumpView) (made : DumpView) → merged preference plain dumps ≡ Some made
-    → (count_of Conflict (choices preference dumps) ≡ 0) × (dump_by (keeps_codes plain dumps) dumps (choices preference dumps) ≡ made)
+    → (outcome_count Conflict (choices preference dumps) ≡ 0) × (dump_by (keeps_codes plain dumps) dumps (choices preference dumps) ≡ made)
 unfolding dump_of_choices
 no_conflict preference plain dumps made is =
-    let told = made_tells (count_of Conflict (choices preference dumps) == 0) (dump_by (keeps_codes plain dumps) dumps (choices preference dumps)) made is in
+    let told = made_tells (outcome_count Conflict (choices preference dumps) == 0) (dump_by (keeps_codes plain dumps) dumps (choices preference dumps)) made is in
     (is_number _ _ told.0, told.1)
 
 pub became_of : (preference : Preference) (dumps : List DumpView) (block : ℕ) → (choice preference dumps block).outcome ≡ outcome preference block dumps
 unfolding choice
 became_of preference dumps block = refl
 
-never_here : (preference : Preference) (dumps : List DumpView) (block : ℕ) → count_of Conflict (choices preference dumps) ≡ 0 → block < block_count dumps
+never_here : (preference : Preference) (dumps : List DumpView) (block : ℕ) → outcome_count Conflict (choices preference dumps) ≡ 0 → block < merged_block_count dumps
     → is_outcome Conflict (outcome preference block dumps) ≡ false
 never_here preference dumps block none within =
-    let n = block_count dumps in
+    let n = merged_block_count dumps in
     let e = length-range_with_len 0 n in
     let here = never Conflict preference dumps none block 0 (omega (arith, e, within)) in
     ap (is_outcome Conflict) (sym (became_of preference dumps block))
@@ -220,7 +220,7 @@ blocks_law preference plain dumps made block some are is within =
     let image : merged_image dumps (choices preference dumps) ≡ made.image = ap (λ (d : DumpView). d.image) told.1 in
     let size = image_size preference dumps in
     let same : length (merged_image dumps (choices preference dumps)) ≡ length made.image = ap length image in
-    let inside : block < block_count dumps = omega (arith, size, same, within) in
+    let inside : block < merged_block_count dumps = omega (arith, size, same, within) in
     subst (IsIn dumps block) (sym (sector_is preference dumps block inside) ∙ ap (λ (i : List (List ℕ)). sector_at i block) image)
     (in_by preference dumps block some are inside (outcome preference block dumps) refl (never_here preference dumps block told.0 inside))
 
@@ -267,14 +267,14 @@ module _ (preference : Preference) (dumps : List DumpView) (block : ℕ) where
       let wrong : true ≡ false = sym h ∙ no_error_in block dumps has_codes (λ k d i g. all k d i refl) in
       absurd (cc)
 
-pub code_is : (preference : Preference) (dumps : List DumpView) (block : ℕ) → block < block_count dumps
+pub code_is : (preference : Preference) (dumps : List DumpView) (block : ℕ) → block < merged_block_count dumps
     → code_of (Some (merged_codes (choices preference dumps))) block ≡ merged_code (outcome preference block dumps) block dumps
 unfolding choices choice
 code_is preference dumps block within =
-    ap (λ (codes : List ℕ). code_of (Some codes) block) (map-map (λ (c : Choice). c.code) (choice preference dumps) (range_with_len 0 (block_count dumps)))
-    ∙ get_or-map-range_with_len (λ b. (choice preference dumps b).code) 0 (block_count dumps) block block 0 within (omega arith)
+    ap (λ (codes : List ℕ). code_of (Some codes) block) (map-map (λ (c : Choice). c.code) (choice preference dumps) (range_with_len 0 (merged_block_count dumps)))
+    ∙ get_or-map-range_with_len (λ b. (choice preference dumps b).code) 0 (merged_block_count dumps) block block 0 within (omega arith)
 
-lost_where_error : (preference : Preference) (dumps : List DumpView) (block : ℕ) (keeps : Bool) → block < block_count dumps
+lost_where_error : (preference : Preference) (dumps : List DumpView) (block : ℕ) (keeps : Bool) → block < merged_block_count dumps
     → is_read_error (code_of (if keeps then Some (merged_codes (choices preference dumps)) else None) block) ≡ true → All (λ x. is_good block x ≡ false) dumps
 lost_where_error preference dumps block false within h = absurd (cc)
 lost_where_error preference dumps block true within h =
@@ -287,5 +287,5 @@ errors_law preference plain dumps made block is within h =
     let image : merged_image dumps (choices preference dumps) ≡ made.image = ap (λ (d : DumpView). d.image) told.1 in
     let size = image_size preference dumps in
     let same : length (merged_image dumps (choices preference dumps)) ≡ length made.image = ap length image in
-    let inside : block < block_count dumps = omega (arith, size, same, within) in
+    let inside : block < merged_block_count dumps = omega (arith, size, same, within) in
     lost_where_error preference dumps block (keeps_codes plain dumps) inside (ap (λ (d : DumpView). is_read_error (code_of d.codes block)) told.1 ∙ h)

@@ -11,7 +11,7 @@ use Rattle.d64_image.specs.Image.{count_of_tracks}
 use Rattle.d64_survey.specs.Dump.{DumpView}
 use Rattle.d64_merge.specs.Copies.{good_count, wins}
 use Rattle.d64_merge.specs.Choices.{are_equal, dump_at, outcome, source, choice}
-use Rattle.d64_merge.specs.Merged.{has_40_tracks, block_count, choices, is_outcome, count_of, taken_bytes, merged_image, keeps_codes, dump_by, dump_of_choices}
+use Rattle.d64_merge.specs.Merged.{has_40_tracks, merged_block_count, choices, is_outcome, outcome_count, taken_bytes, merged_image, keeps_codes, dump_by, dump_of_choices}
 use Rattle.d64_merge.specs.Laws.{OrderDoesNotMatter}
 use Rattle.d64_merge.specs.declared.choice.Choice.{Choice}
 use Rattle.d64_merge.specs.declared.outcome.Preference.{Preference}
@@ -89,7 +89,7 @@ module _ (preference : Preference) (dumps others : List DumpView) (perm : IsPerm
   unfolding choice
   same_became block = same_outcome preference block dumps others perm
 
-  same_size : block_count others ≡ block_count dumps
+  same_size : merged_block_count others ≡ merged_block_count dumps
   same_size = ap (λ (b : Bool). count_of_tracks (if b then 40 else 35)) (sym (any_permuted has_40_tracks dumps others perm))
 
 -- a property of a list's images
@@ -103,19 +103,19 @@ same_map f g (x ∷ xs) all = ap₂ (λ a b. a ∷ b) (All-head (λ x. f x ≡ g
 
 -- no block has this outcome, block by block
 abbrev IsNever : Outcome → Preference → List DumpView → Type 0
-IsNever became preference dumps = All (λ block. is_outcome became (choice preference dumps block).outcome ≡ false) (range_with_len 0 (block_count dumps))
+IsNever became preference dumps = All (λ block. is_outcome became (choice preference dumps block).outcome ≡ false) (range_with_len 0 (merged_block_count dumps))
 
-pub never : (became : Outcome) (preference : Preference) (dumps : List DumpView) → count_of became (choices preference dumps) ≡ 0 → IsNever became preference dumps
+pub never : (became : Outcome) (preference : Preference) (dumps : List DumpView) → outcome_count became (choices preference dumps) ≡ 0 → IsNever became preference dumps
 unfolding choices
 never became preference dumps none =
-    unmapped (λ (c : Choice). is_outcome became c.outcome ≡ false) (choice preference dumps) (range_with_len 0 (block_count dumps))
-    (none_counted (λ (c : Choice). is_outcome became c.outcome) (map (choice preference dumps) (range_with_len 0 (block_count dumps))) none)
+    unmapped (λ (c : Choice). is_outcome became c.outcome ≡ false) (choice preference dumps) (range_with_len 0 (merged_block_count dumps))
+    (none_counted (λ (c : Choice). is_outcome became c.outcome) (map (choice preference dumps) (range_with_len 0 (merged_block_count dumps))) none)
 
-pub counted_never : (became : Outcome) (preference : Preference) (dumps : List DumpView) → IsNever became preference dumps → count_of became (choices preference dumps) ≡ 0
+pub counted_never : (became : Outcome) (preference : Preference) (dumps : List DumpView) → IsNever became preference dumps → outcome_count became (choices preference dumps) ≡ 0
 unfolding choices
 counted_never became preference dumps all =
-    count_none (λ (c : Choice). is_outcome became c.outcome) (map (choice preference dumps) (range_with_len 0 (block_count dumps)))
-    (All-map (λ (c : Choice). is_outcome became c.outcome ≡ false) (choice preference dumps) (range_with_len 0 (block_count dumps)) all)
+    count_none (λ (c : Choice). is_outcome became c.outcome) (map (choice preference dumps) (range_with_len 0 (merged_block_count dumps)))
+    (All-map (λ (c : Choice). is_outcome became c.outcome ≡ false) (choice preference dumps) (range_with_len 0 (merged_block_count dumps)) all)
 
 pub made_tells : (b : Bool) (dump made : DumpView) → (if b then Some dump else None) ≡ Some made → (b ≡ true) × (dump ≡ made)
 made_tells true dump made is = (refl, same_Some dump made is)
@@ -126,7 +126,7 @@ images : (preference : Preference) (dumps others : List DumpView) → IsPermutat
     → merged_image others (choices preference others) ≡ merged_image dumps (choices preference dumps)
 unfolding merged_image choices
 images preference dumps others perm lost first =
-    let blocks = range_with_len 0 (block_count dumps) in
+    let blocks = range_with_len 0 (merged_block_count dumps) in
     ap (λ (n : ℕ). map (taken_bytes others) (map (choice preference others) (range_with_len 0 n))) (same_size preference dumps others perm)
     ∙ map-map (taken_bytes others) (choice preference others) blocks
     ∙ same_map (λ block. taken_bytes others (choice preference others block)) (λ block. taken_bytes dumps (choice preference dumps block)) blocks
@@ -136,14 +136,14 @@ images preference dumps others perm lost first =
 pub order_law : OrderDoesNotMatter
 unfolding dump_of_choices dump_by
 order_law preference plain dumps others made perm is lost first =
-    let told = made_tells (count_of Conflict (choices preference dumps) == 0) (dump_by (keeps_codes plain dumps) dumps (choices preference dumps)) made is in
+    let told = made_tells (outcome_count Conflict (choices preference dumps) == 0) (dump_by (keeps_codes plain dumps) dumps (choices preference dumps)) made is in
     let conflict = never Conflict preference dumps (is_number _ _ told.0) in
     let size = same_size preference dumps others perm in
     let too : IsNever Conflict preference others =
     subst (λ (n : ℕ). All (λ block. is_outcome Conflict (choice preference others block).outcome ≡ false) (range_with_len 0 n)) (sym size)
     (λ k d h. ap (is_outcome Conflict) (same_became preference dumps others perm _) ∙ conflict k d h) in
     let other : DumpView = dump_by (keeps_codes plain others) others (choices preference others) in
-    let no_conflict : count_of Conflict (choices preference others) ≡ 0 = counted_never Conflict preference others too in (
+    let no_conflict : outcome_count Conflict (choices preference others) ≡ 0 = counted_never Conflict preference others too in (
       other,
       ap (λ (b : Bool). if b then Some other else None) (eq-eqb _ _ no_conflict),
       images preference dumps others perm (never Lost preference dumps lost) (never First preference dumps first) ∙ ap (λ (d : DumpView). d.image) told.1,

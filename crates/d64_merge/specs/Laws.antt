@@ -6,7 +6,7 @@ use Rattle.d64_image.specs.Image.{sector_at}
 use Rattle.d64_survey.specs.Dump.{DumpView, IsDump, is_read_error}
 use Rattle.d64_survey.specs.ReadErrors.{code_of}
 use Rattle.d64_merge.specs.Copies.{has_block, is_good}
-use Rattle.d64_merge.specs.Merged.{choices, count_of, merged}
+use Rattle.d64_merge.specs.Merged.{choices, outcome_count, merged}
 use Rattle.d64_merge.specs.declared.outcome.Preference.{Preference}
 use Rattle.d64_merge.specs.declared.outcome.Outcome.TheVariants.{Lost, First}
 
@@ -39,5 +39,5 @@ abbrev pub OrderDoesNotMatter : Type 0
 OrderDoesNotMatter =
     (preference : Preference) (plain : Bool) (dumps others : List DumpView) (made : DumpView)
     → IsPermutation dumps others → merged preference plain dumps ≡ Some made
-    → count_of Lost (choices preference dumps) ≡ 0 → count_of First (choices preference dumps) ≡ 0
+    → outcome_count Lost (choices preference dumps) ≡ 0 → outcome_count First (choices preference dumps) ≡ 0
     → (other : DumpView) × (merged preference plain others ≡ Some other) × (other.image ≡ made.image)

@@ -15,21 +15,21 @@ abbrev pub is_whole_track : ℕ → ℕ → Bool
 is_whole_track tracks entry = (entry % 2 == 0) && nat_lt (entry / 2) tracks
 
 -- a block was lost, or the merged dump hasn't it
-abbrev pub is_lost : List Choice → ℕ → Bool
-is_lost list block = option_map_or (λ (choice : Choice). is_outcome Lost choice.outcome) (slice_get list block) true
+abbrev pub is_block_lost : List Choice → ℕ → Bool
+is_block_lost list block = option_map_or (λ (choice : Choice). is_outcome Lost choice.outcome) (slice_get list block) true
 
 -- the same for a track and a sector; a pair that no disk has is missing, too
 abbrev pub is_missing : List Choice → ℕ × ℕ → Bool
-is_missing list pair = option_map_or (is_lost list) (block_of pair.0 pair.1) true
+is_missing list pair = option_map_or (is_block_lost list) (block_of pair.0 pair.1) true
 
 -- an entry of a G64 holds such a block, with its data
 abbrev pub holds_missing : List Choice → ℕ → Bytes → Bool
 holds_missing list entry file = list_any (is_missing list) (names_on file entry)
 
 -- an entry is not a track of the merged dump, and one of the files holds such a block there
-abbrev pub is_left : ℕ → List Choice → List Bytes → ℕ → Bool
-is_left tracks list files entry = not (is_whole_track tracks entry) && list_any (holds_missing list entry) files
+abbrev pub is_entry_left : ℕ → List Choice → List Bytes → ℕ → Bool
+is_entry_left tracks list files entry = not (is_whole_track tracks entry) && list_any (holds_missing list entry) files
 
 -- these entries, ascending; a G64 has at most 255
 unfoldable pub left : ℕ → List Choice → List Bytes → List ℕ
-left tracks list files = filter (is_left tracks list files) (range_with_len 0 255)
+left tracks list files = filter (is_entry_left tracks list files) (range_with_len 0 255)

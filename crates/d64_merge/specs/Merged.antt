@@ -20,12 +20,12 @@ abbrev pub merged_tracks : List DumpView → ℕ
 merged_tracks dumps = if list_any has_40_tracks dumps then 40 else 35
 
 -- how many blocks the merged dump has
-abbrev pub block_count : List DumpView → ℕ
-block_count dumps = count_of_tracks (merged_tracks dumps)
+abbrev pub merged_block_count : List DumpView → ℕ
+merged_block_count dumps = count_of_tracks (merged_tracks dumps)
 
 -- what becomes of the merged dump's blocks, in their order
 unfoldable pub choices : Preference → List DumpView → List Choice
-choices preference dumps = map (choice preference dumps) (range_with_len 0 (block_count dumps))
+choices preference dumps = map (choice preference dumps) (range_with_len 0 (merged_block_count dumps))
 
 -- two outcomes are the same
 abbrev pub is_outcome : Outcome → Outcome → Bool
@@ -38,8 +38,8 @@ is_outcome Conflict Conflict = true
 is_outcome one other = false
 
 -- how many blocks have this outcome
-abbrev pub count_of : Outcome → List Choice → ℕ
-count_of outcome list = count_by (λ (choice : Choice). is_outcome outcome choice.outcome) list
+abbrev pub outcome_count : Outcome → List Choice → ℕ
+outcome_count outcome list = count_by (λ (choice : Choice). is_outcome outcome choice.outcome) list
 
 -- the bytes of the copy that is taken of a block; empty if no copy is taken
 abbrev pub taken_bytes : List DumpView → Choice → Bytes
@@ -63,7 +63,7 @@ dump_by with_codes dumps list = record { image = merged_image dumps list; codes 
 
 -- the dump that they make; None if there is a conflict
 unfoldable pub dump_of_choices : Bool → List DumpView → List Choice → Option DumpView
-dump_of_choices with_codes dumps list = if count_of Conflict list == 0 then Some (dump_by with_codes dumps list) else None
+dump_of_choices with_codes dumps list = if outcome_count Conflict list == 0 then Some (dump_by with_codes dumps list) else None
 
 -- the dump that a merge makes; None if there is a conflict
 abbrev pub merged : Preference → Bool → List DumpView → Option DumpView

@@ -1,7 +1,7 @@
 //! The tracks of G64 files that the merged dump hasn't, and on which there are blocks that it
 //! lacks.
 ghost use Rattle.std.specs.Prelude.{◌≡◌, ◌∷◌, ◌++◌, [], if◌then◌else◌, map, IfOk, OnOk};
-ghost use Rattle.d64_merge.specs.Left.{is_whole_track, is_missing, holds_missing, is_left, left};
+ghost use Rattle.d64_merge.specs.Left.{is_whole_track, is_missing, holds_missing, is_entry_left, left};
 
 use crate::choice::Choice;
 use crate::merging::is_outcome;
@@ -59,7 +59,7 @@ fn is_left(
     entry: u8,
     names: &mut Vec<(u8, u8)>,
 ) -> Result<bool, AllocError>
-    ensures { IfOk result (λ is_one. is_one ≡ is_left tracks list.now (map (λ file. file.items) files.now) entry) }
+    ensures { IfOk result (λ is_one. is_one ≡ is_entry_left tracks list.now (map (λ file. file.items) files.now) entry) }
 {
     if is_whole_track(tracks, entry) {
         return Ok(false);

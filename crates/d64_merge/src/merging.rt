@@ -4,7 +4,7 @@ ghost use Rattle.std.specs.List.{list_any};
 ghost use Rattle.d64_image.specs.Image.{bytes_of, sector_at};
 ghost use Rattle.d64_survey.specs.Dump.{dump_bytes};
 ghost use Rattle.d64_merge.specs.Choices.{has_codes};
-ghost use Rattle.d64_merge.specs.Merged.{has_40_tracks, merged_tracks, block_count, choices, is_outcome, count_of, taken_bytes, merged_image, merged_codes, keeps_codes, dump_by, dump_of_choices};
+ghost use Rattle.d64_merge.specs.Merged.{has_40_tracks, merged_tracks, merged_block_count, choices, is_outcome, outcome_count, taken_bytes, merged_image, merged_codes, keeps_codes, dump_by, dump_of_choices};
 
 use crate::choice::{Choice, choose, has_codes};
 use crate::outcome::{Outcome, Preference, dump_at};
@@ -38,7 +38,7 @@ pub fn merged_tracks(dumps: &[Dump]) -> u8
 
 /// Returns how many blocks the merged dump has.
 fn block_count(dumps: &[Dump]) -> usize
-    ensures { result ≡ block_count dumps.now }
+    ensures { result ≡ merged_block_count dumps.now }
 {
     if merged_tracks(dumps) == 40 {
         BLOCKS
@@ -75,7 +75,7 @@ pub fn is_outcome(one: Outcome, other: Outcome) -> bool
 
 /// Returns how many blocks have this outcome.
 pub fn count_of(outcome: Outcome, list: &[Choice]) -> usize
-    ensures count { result ≡ count_of outcome list.now }
+    ensures count { result ≡ outcome_count outcome list.now }
     ensures few { result ≤ length list.now }
 {
     list.iter()

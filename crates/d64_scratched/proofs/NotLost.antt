@@ -14,7 +14,7 @@ use Rattle.d64_survey.specs.declared.way_end.WayEnd.{WayEnd}
 use Rattle.d64_survey.specs.declared.way_end.WayEnd.TheVariants.{End, Off, Loop}
 use Rattle.d64_survey.proofs.Told.{bounded}
 use Rattle.d64_scratched.specs.LossLaws.{FilesThatAreNotLostCanBeRestored}
-use Rattle.d64_scratched.specs.Scratched.{scratched_way, is_claimed_below, is_missized, where_lost, losses, is_lost}
+use Rattle.d64_scratched.specs.Scratched.{scratched_way, is_claimed_below, is_scratched_missized, where_lost, losses, is_lost}
 use Rattle.d64_scratched.specs.declared.loss.Loss.TheVariants.{Chain, Reused, Marked, Size, Claimed, Unreadable}
 use Rattle.d64_scratched.proofs.Untouched.{is_free}
 
@@ -54,7 +54,7 @@ pub not_lost-restored : FilesThatAreNotLostCanBeRestored
 unfolding losses
 not_lost-restored image codes slot cell h =
     let walked = scratched_way image cell in
-    let parts = not_fatal (not (is_whole walked.1)) (list_any (is_owned image) walked.0) (list_any (is_unowned image) walked.0) (is_missized cell walked)
+    let parts = not_fatal (not (is_whole walked.1)) (list_any (is_owned image) walked.0) (list_any (is_unowned image) walked.0) (is_scratched_missized cell walked)
     (list_any (is_claimed_below image slot) walked.0) (any_unreadable codes walked.0) h in
     let end : (way image (first_pair cell)).1 ≡ End = ends walked.1 parts.0 in
     let told = bounded image (first_pair cell) in

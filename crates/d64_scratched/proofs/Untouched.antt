@@ -17,7 +17,7 @@ use Rattle.d64_survey.specs.declared.owner.Part.TheVariants.{Data, Side}
 use Rattle.d64_survey.specs.declared.owner.Owner.{Owner}
 use Rattle.d64_survey.specs.declared.owner.Owner.TheVariants.{Directory, File}
 use Rattle.d64_scratched.specs.LossLaws.{IsUntouched, WholeFilesAreUntouched}
-use Rattle.d64_scratched.specs.Scratched.{scratched_way, is_claimed_below, is_missized, where_lost, losses}
+use Rattle.d64_scratched.specs.Scratched.{scratched_way, is_claimed_below, is_scratched_missized, where_lost, losses}
 use Rattle.d64_scratched.specs.declared.loss.Loss.TheVariants.{Chain, Reused, Marked, Size, Claimed, Unreadable}
 
 -- if no reason holds, each test fails
@@ -113,6 +113,6 @@ pub whole-untouched : WholeFilesAreUntouched
 unfolding losses
 whole-untouched image codes slot cell none =
     let way = scratched_way image cell in
-    let parts = none_lost (not (is_whole way.1)) (list_any (is_owned image) way.0) (list_any (is_unowned image) way.0) (is_missized cell way)
+    let parts = none_lost (not (is_whole way.1)) (list_any (is_owned image) way.0) (list_any (is_unowned image) way.0) (is_scratched_missized cell way)
     (list_any (is_claimed_below image slot) way.0) (any_unreadable codes way.0) none in
     each image slot way.0 parts.0 parts.1 parts.2

@@ -28,8 +28,8 @@ abbrev pub is_claimed_below : Disk → ℕ → ℕ → Bool
 is_claimed_below image slot block = list_any (nat_eq block) (blocks_left image (take slot (way_slots image)))
 
 -- whether the way ends after a last block, and has another number of blocks than the slot's size
-abbrev pub is_missized : Bytes → Blocks × WayEnd → Bool
-is_missized cell way = is_whole way.1 && not (length way.0 == size_of cell)
+abbrev pub is_scratched_missized : Bytes → Blocks × WayEnd → Bool
+is_scratched_missized cell way = is_whole way.1 && not (length way.0 == size_of cell)
 
 -- a list of the reason if it applies, and else the empty list
 abbrev pub where_lost : Bool → Loss → List Loss
@@ -41,7 +41,7 @@ losses_by image codes slot cell way =
     where_lost (not (is_whole way.1)) Chain
     ++ (where_lost (list_any (is_owned image) way.0) Reused
     ++ (where_lost (list_any (is_unowned image) way.0) Marked
-    ++ (where_lost (is_missized cell way) Size
+    ++ (where_lost (is_scratched_missized cell way) Size
     ++ (where_lost (list_any (is_claimed_below image slot) way.0) Claimed
     ++ where_lost (any_unreadable codes way.0) Unreadable))))
 

@@ -4,7 +4,7 @@ ghost use Rattle.std.specs.List.{list_any};
 ghost use Rattle.d64_image.specs.declared.block.TheConstants.{BLOCKS};
 ghost use Rattle.d64_survey.specs.Flaws.{any_unreadable};
 ghost use Rattle.d64_survey.specs.Owners.{is_owned, is_unowned};
-ghost use Rattle.d64_scratched.specs.Scratched.{is_scratched, is_claimed_below, is_missized, where_lost, losses_by, losses};
+ghost use Rattle.d64_scratched.specs.Scratched.{is_scratched, is_claimed_below, is_scratched_missized, where_lost, losses_by, losses};
 
 use crate::loss::Loss;
 use crate::lowest::LowestSlots;
@@ -69,7 +69,7 @@ fn loss_if(list: &mut ArrayVec<Loss, LOSSES>, loss: Loss, holds: bool)
 
 /// Whether a way is a whole chain, but not as long as the size in the slot.
 fn is_missized(entry: &Entry, end: WayEnd, way: &[BlockNo]) -> bool
-    ensures { result ≡ is_missized entry.now.bytes (way.now, end) }
+    ensures { result ≡ is_scratched_missized entry.now.bytes (way.now, end) }
 {
     end.is_whole() && way.len() != usize::from(entry.blocks())
 }

@@ -7,7 +7,7 @@ use Rattle.program_batch.specs.Answers.{KeepsQuiet, Rule, by_rule}
 use Rattle.program_reports.specs.Printings.{Printing, survey_rule}
 use Rattle.program_reports.proofs.Quiet.{survey-is_quiet}
 use Rattle.cmd_extract.specs.Effects.{unpacks}
-use Rattle.cmd_extract.specs.Setup.{SetupView}
+use Rattle.cmd_extract.specs.Setup.{ExtractSetupView}
 use Rattle.cmd_extract.specs.declared.unpacker.Unpacker.{Unpacker}
 use Rattle.cmd_extract.proofs.QuietWork.{clean_is_quiet}
 use Rattle.script_run.specs.Transcript.{RunOptions}
@@ -45,7 +45,7 @@ script_ended job beginning begun source from options at old new status is same_b
     (subst (λ (b : Beginning). EndedShell b from at old new status) same_beginning ended)))
 
 -- a job whose work is an extraction has ended as that has
-pub extraction_ended : (job : Job) (setup : SetupView) (heading : List ℕ) (files shown : SurveyFiles) (old new : Outside) (status : ℕ)
+pub extraction_ended : (job : Job) (setup : ExtractSetupView) (heading : List ℕ) (files shown : SurveyFiles) (old new : Outside) (status : ℕ)
     → work_of job ≡ Extraction setup heading files → shown ≡ files → EndedSurvey (unpacks setup) heading shown old new status
     → EndedWork (work_of job) old new status
 extraction_ended job setup heading files shown old new status is same ended =
@@ -61,13 +61,13 @@ not_true : (test : Bool) → (test ≡ true → ⊥) → test ≡ false
 not_true true refuted = absurd (refuted refl)
 not_true false refuted = refl
 
-passes_not : (job : Job) (setup : SetupView) (heading : List ℕ) (files : SurveyFiles) → work_of job ≡ Extraction setup heading files → (PassesOver (work_of job) → ⊥) → setup.skips ≡ false
+passes_not : (job : Job) (setup : ExtractSetupView) (heading : List ℕ) (files : SurveyFiles) → work_of job ≡ Extraction setup heading files → (PassesOver (work_of job) → ⊥) → setup.skips ≡ false
 passes_not job setup heading files is passes = not_true setup.skips (λ skips. passes (subst PassesOver (sym is) skips))
 
 -- writes nothing to the standard error about a clean image, if there was memory to begin
-pub extraction_is_quiet : {E : Type 0} (job : Job) (setup : SetupView) (heading : List ℕ) (files : SurveyFiles) (made : Result Unpacker E)
+pub extraction_is_quiet : {E : Type 0} (job : Job) (setup : ExtractSetupView) (heading : List ℕ) (files : SurveyFiles) (made : Result Unpacker E)
     → work_of job ≡ Extraction setup heading files → IfOk made (λ unpacker. unpacker.setup ≡ setup) → (PassesOver (work_of job) → ⊥)
     → IfOk made (λ unpacker. KeepsQuiet (unpacks unpacker.setup))
 extraction_is_quiet job setup heading files (Ok unpacker) is made passes =
-    subst (λ (s : SetupView). KeepsQuiet (unpacks s)) (sym made) (clean_is_quiet setup (passes_not job setup heading files is passes))
+    subst (λ (s : ExtractSetupView). KeepsQuiet (unpacks s)) (sym made) (clean_is_quiet setup (passes_not job setup heading files is passes))
 extraction_is_quiet job setup heading files (Err error) is made passes = tt

@@ -1,7 +1,7 @@
 -- What each job does.
 use Rattle.std.specs.Prelude.{◌≡◌, ℕ, true, List, [], ◌∷◌, Option, ⊤, map, option_map, string_bytes}
 use Rattle.program_arguments.specs.declared.jobs.Job.{Job}
-use Rattle.program_surveys.specs.SurveyFiles.{SurveyFiles, Named, files_of}
+use Rattle.program_surveys.specs.SurveyFiles.{SurveyFiles, Named, survey_files_of}
 use Rattle.program_surveys.specs.Comparisons.{PairRule}
 use Rattle.script_run.specs.Transcript.{RunOptions}
 use Rattle.cmd_basic.specs.declared.tools.Tool.{Tool}
@@ -13,14 +13,14 @@ use Rattle.program_arguments.specs.declared.jobs.Format.{Format}
 use Rattle.program_arguments.specs.declared.jobs.Leftovers.{Leftovers}
 use Rattle.program_batch.specs.Answers.{Rule}
 use Rattle.cmd_check.specs.Check.{check_rule, heading_of as check_heading}
-use Rattle.cmd_files.specs.Files.{files_rule, heading_of as files_heading}
+use Rattle.cmd_files.specs.Files.{files_rule, file_heading_of as files_heading}
 use Rattle.cmd_files.specs.Extracts.{extract_heading}
 use Rattle.cmd_files.specs.declared.form.Form.{Form}
-use Rattle.cmd_extract.specs.Setup.{SetupView}
+use Rattle.cmd_extract.specs.Setup.{ExtractSetupView}
 use Rattle.cmd_map.specs.Pictures.{map_rule}
 use Rattle.cmd_catalogue.specs.Catalogue.{catalogue_rule, catalogue_heading}
 use Rattle.cmd_diff.specs.Differences.{difference_rule}
-use Rattle.cmd_merge.specs.Setup.{SetupView as MergeView}
+use Rattle.cmd_merge.specs.Setup.{MergeSetupView as MergeView}
 use Rattle.cmd_basic.specs.declared.tools.Tool.TheVariants as tools
 use Rattle.cmd_shell.specs.Beginnings.{Beginning, beginning_of, home_of, Source, source_of, refusals_of}
 
@@ -29,7 +29,7 @@ abbrev pub form_of : Format → Leftovers → Form
 form_of format leftovers = record { format = format; leftovers = leftovers }
 
 -- the options of an extraction that the arguments give, in a form of the output
-abbrev pub setup_of : RequestedExtraction → Form → SetupView
+abbrev pub setup_of : RequestedExtraction → Form → ExtractSetupView
 setup_of requested form = record { into = string_bytes requested.into; with_parts = requested.part; skips = requested.skip_existing; form = form }
 
 -- what a merge of these files is asked for by the arguments, in a form of the output
@@ -50,7 +50,7 @@ pub data JobWork : Type 0 where
   Script : Beginning → Source → RunOptions → JobWork
   Conversion : Tool → Option (List ℕ) → Option (List ℕ) → JobWork
   Survey : Rule → List ℕ → SurveyFiles → JobWork
-  Extraction : SetupView → List ℕ → SurveyFiles → JobWork
+  Extraction : ExtractSetupView → List ℕ → SurveyFiles → JobWork
   Comparison : PairRule → List ℕ → List ℕ → JobWork
   Merging : MergeView → JobWork
 
@@ -61,12 +61,12 @@ work_of (Shell image tracks resume lines stops) =
     (record { home = home_of (option_map string_bytes image); refusals = refusals_of stops })
 work_of (Petcat file output) = Conversion tools.Petcat (option_map string_bytes file) (option_map string_bytes output)
 work_of (Crunch start file output) = Conversion (tools.Crunch start) (option_map string_bytes file) (option_map string_bytes output)
-work_of (Check digest format names) = Survey (check_rule format digest) (check_heading format digest) (files_of names)
-work_of (Files leftovers format names) = Survey (files_rule (form_of format leftovers)) (files_heading (form_of format leftovers)) (files_of names)
+work_of (Check digest format names) = Survey (check_rule format digest) (check_heading format digest) (survey_files_of names)
+work_of (Files leftovers format names) = Survey (files_rule (form_of format leftovers)) (files_heading (form_of format leftovers)) (survey_files_of names)
 work_of (Extract requested leftovers format names) =
-    Extraction (setup_of requested (form_of format leftovers)) (extract_heading (form_of format leftovers)) (files_of names)
+    Extraction (setup_of requested (form_of format leftovers)) (extract_heading (form_of format leftovers)) (survey_files_of names)
 work_of (Map format file) = Survey (map_rule format) [] (Named (string_bytes file ∷ []))
-work_of (Catalogue page names) = Survey (catalogue_rule page) (catalogue_heading page) (files_of names)
+work_of (Catalogue page names) = Survey (catalogue_rule page) (catalogue_heading page) (survey_files_of names)
 work_of (Diff format old new) = Comparison (difference_rule format) (string_bytes old) (string_bytes new)
 work_of (Merge requested format files) = Merging (merge_setup_of requested format (map string_bytes files.items))
 

@@ -16,7 +16,7 @@ use Rattle.d64_map.specs.Track.{members_on}
 use Rattle.d64_files.specs.Claims.{has_repeats}
 use Rattle.d64_files.specs.Slot.{type_byte, has_kind}
 use Rattle.d64_files.specs.Ownership.{chain_at, roots}
-use Rattle.d64_files.specs.Directory.{directory, owned_blocks, number_of}
+use Rattle.d64_files.specs.Directory.{directory, owned_blocks, condition_number}
 use Rattle.d64_files.specs.FirstFault.{is_nil, fails, first_fault, sound_conditions}
 use Rattle.d64_files.specs.declared.dir_fault.DirFault.{DirFault}
 use Rattle.d64_files.specs.declared.dir_fault.DirFault.TheVariants as conditions
@@ -353,9 +353,9 @@ free_tell image size same =
     (λ block. one_tells (is_owned image block && set.contains (free_blocks image) block) (MarkedFree block)) blocks)
 
 -- one condition before others
-step : (failed : Bool) (fault : DirFault) (others : Option DirFault) (list rest : List Fault) → Tells failed (number_of fault) list
-    → (failed ≡ false → first_number rest ≡ option_map number_of others) → first_number (list ++ rest) ≡ option_map number_of (cond failed (Some fault) others)
-step true fault others list rest t next = first_before list rest (number_of fault) (t.first refl)
+step : (failed : Bool) (fault : DirFault) (others : Option DirFault) (list rest : List Fault) → Tells failed (condition_number fault) list
+    → (failed ≡ false → first_number rest ≡ option_map condition_number others) → first_number (list ++ rest) ≡ option_map condition_number (cond failed (Some fault) others)
+step true fault others list rest t next = first_before list rest (condition_number fault) (t.first refl)
 step false fault others list rest t next = ap (λ (l : List Fault). first_number (l ++ rest)) (t.none refl) ∙ next refl
 
 pub least : FirstFaultIsTheLeast
@@ -371,9 +371,9 @@ least image size =
     ap first_number (sym (append-nil (free_faults image))) ∙ step _ conditions.MarkedFree None (free_faults image) [] (free_tell image size same) (λ used. refl))))))
 
 -- a number that isn't there is no fault's
-no_fault : (fault : Option DirFault) → option_map number_of fault ≡ None → fault ≡ None
+no_fault : (fault : Option DirFault) → option_map condition_number fault ≡ None → fault ≡ None
 no_fault None e = refl
-no_fault (Some fault) e = absurd (let f : Some (number_of fault) ≡ None = e in cc)
+no_fault (Some fault) e = absurd (let f : Some (condition_number fault) ≡ None = e in cc)
 
 no_faults : (list : List Fault) → first_number list ≡ None → list ≡ []
 no_faults [] e = refl
@@ -382,5 +382,5 @@ no_faults (fault ∷ list) e = absurd (let f : Some (number fault) ≡ None = e 
 pub sound : NoFaultWhereSound
 sound image size = (
   λ e. (sound_tells image).0.0 (no_fault (first_fault image sound_conditions) (sym (least image size) ∙ ap first_number e)),
-  λ all. no_faults (faults image) (least image size ∙ ap (option_map number_of) ((sound_tells image).0.1 all)),
+  λ all. no_faults (faults image) (least image size ∙ ap (option_map condition_number) ((sound_tells image).0.1 all)),
 )

@@ -50,10 +50,10 @@ dump_fault (image_faults.WrongLength length) = WrongLength length
 dump_fault (image_faults.Memory fault) = Memory fault
 
 -- the length for which bytes were refused; None if they made a dump, or there was no memory
-abbrev pub wrong_length : {A : Type 0} → Result A DumpFault → Option ℕ
-wrong_length (Ok dump) = None
-wrong_length (Err (WrongLength length)) = Some length
-wrong_length (Err (Memory fault)) = None
+abbrev pub wrong_dump_length : {A : Type 0} → Result A DumpFault → Option ℕ
+wrong_dump_length (Ok dump) = None
+wrong_dump_length (Err (WrongLength length)) = Some length
+wrong_dump_length (Err (Memory fault)) = None
 
 -- whether a code is that of a read error: it is neither 0 nor 1
 abbrev pub is_read_error : ℕ → Bool

@@ -4,7 +4,7 @@ use Rattle.std.specs.List.{slice_get}
 use Rattle.std.specs.Option.{option_map_or}
 use Rattle.d64_image.specs.Disk.{Disk, Bytes}
 use Rattle.d64_image.specs.Image.{IsSize}
-use Rattle.d64_files.specs.Directory.{AllHold, number_of, directory, owned_blocks}
+use Rattle.d64_files.specs.Directory.{AllHold, condition_number, directory, owned_blocks}
 use Rattle.d64_files.specs.Ownership.{chain_at, HasItsChains}
 use Rattle.d64_files.specs.FirstFault.{first_fault, sound_conditions}
 use Rattle.d64_survey.specs.Faults.{faults, number}
@@ -18,7 +18,7 @@ NoFaultWhereSound = (image : Disk) → IsSize (length image) → (faults image �
 -- the first fault's number is that of the first condition that the image fails
 abbrev pub FirstFaultIsTheLeast : Type 0
 FirstFaultIsTheLeast =
-    (image : Disk) → IsSize (length image) → option_map number (slice_get (faults image) 0) ≡ option_map number_of (first_fault image sound_conditions)
+    (image : Disk) → IsSize (length image) → option_map number (slice_get (faults image) 0) ≡ option_map condition_number (first_fault image sound_conditions)
 
 -- the blocks of each way of a slot's file are the chain from its pair
 abbrev pub WaysAreItsChains : Disk → Bytes → Type 0

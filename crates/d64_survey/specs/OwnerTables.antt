@@ -20,12 +20,12 @@ owner_kept (Data slot) = owners.File slot parts.Data
 owner_kept (Side slot) = owners.File slot parts.Side
 
 -- the owners that a row has of its block
-abbrev pub told_by : Row → OwnersView
-told_by row = record { shown = map owner_kept (take row.count row.first); count = row.count }
+abbrev pub row_owners : Row → OwnersView
+row_owners row = record { shown = map owner_kept (take row.count row.first); count = row.count }
 
 -- the row of a block
-abbrev pub row_of : OwnerTable → ℕ → Row
-row_of table block = slice_index_or table.rows block (record { first = []; count = 0 })
+abbrev pub owner_row_of : OwnerTable → ℕ → Row
+owner_row_of table block = slice_index_or table.rows block (record { first = []; count = 0 })
 
 -- the second table has for each block the owners of the first one, and after them these owners
 abbrev pub Adds : OwnerTable → List (ℕ × Owner) → OwnerTable → Type 0
@@ -33,17 +33,17 @@ Adds old owned new =
     (block : ℕ)
     → block < BLOCKS
     → (all : List Owner)
-    → AreTold all (told_by (row_of old block))
-    → AreTold (all ++ owners_among block owned) (told_by (row_of new block))
+    → AreTold all (row_owners (owner_row_of old block))
+    → AreTold (all ++ owners_among block owned) (row_owners (owner_row_of new block))
 
 -- the second table counts at most n more owners of each block than the first
 abbrev pub AddsFew : OwnerTable → ℕ → OwnerTable → Type 0
-AddsFew old count new = (block : ℕ) → (row_of new block).count ≤ (row_of old block).count + count
+AddsFew old count new = (block : ℕ) → (owner_row_of new block).count ≤ (owner_row_of old block).count + count
 
 -- the table counts at most n owners of each block
 abbrev pub CountsUpTo : ℕ → OwnerTable → Type 0
-CountsUpTo limit table = (block : ℕ) → (row_of table block).count ≤ limit
+CountsUpTo limit table = (block : ℕ) → (owner_row_of table block).count ≤ limit
 
 -- the table has the owners of each block of an image
 abbrev pub TellsOwners : Disk → OwnerTable → Type 0
-TellsOwners image table = (block : ℕ) → block < BLOCKS → AreTold (owners_of image block) (told_by (row_of table block))
+TellsOwners image table = (block : ℕ) → block < BLOCKS → AreTold (owners_of image block) (row_owners (owner_row_of table block))

@@ -1,7 +1,7 @@
 //! Dumps of disks: images with the read codes of their blocks.
 ghost use Rattle.std.specs.Prelude.{◌≡◌, ◌≤◌, if◌then◌else◌, Some, None, IfOk, IfSome, OnOk, OnErr, is_some, true, length, take, option_map};
 ghost use Rattle.d64_image.specs.Image.{is_image_length};
-ghost use Rattle.d64_survey.specs.Dump.{IsDump, dump_bytes, image_bytes as image_bytes_in, wrong_length, is_read_error, drive_status};
+ghost use Rattle.d64_survey.specs.Dump.{IsDump, dump_bytes, image_bytes as image_bytes_in, wrong_dump_length, is_read_error, drive_status};
 
 use d64_image::{Image, ImageFault};
 use std::alloc::{AllocError, Global};
@@ -120,7 +120,7 @@ impl Dump {
     /// Makes a dump of these bytes. `WrongLength` comes unless there are 174,848 or 196,608 bytes,
     /// those of an image, or 175,531 or 197,376, those of an image and its 683 or 768 codes.
     pub fn from_bytes(alloc: Global, bytes: &[u8]) -> Result<Dump, DumpFault>
-        ensures refused { wrong_length result ≡ (if is_some (image_bytes_in (length bytes.now)) then None else Some (length bytes.now)) }
+        ensures refused { wrong_dump_length result ≡ (if is_some (image_bytes_in (length bytes.now)) then None else Some (length bytes.now)) }
         ensures kept { IfOk result (λ dump. dump_bytes dump ≡ bytes.now) }
         ensures dump { IfOk result IsDump }
     {
@@ -150,7 +150,7 @@ impl Dump {
     /// dump is unchanged. It allocates only if the new dump has more blocks or codes than any
     /// before it.
     pub fn refill(&mut self, bytes: &[u8]) -> Result<(), DumpFault>
-        ensures refused { wrong_length result ≡ (if is_some (image_bytes_in (length bytes.now)) then None else Some (length bytes.now)) }
+        ensures refused { wrong_dump_length result ≡ (if is_some (image_bytes_in (length bytes.now)) then None else Some (length bytes.now)) }
         ensures filled { OnOk result (dump_bytes self.new ≡ bytes.now) }
         ensures dump { OnOk result (IsDump self.new) }
         ensures unchanged { OnErr result (self.new ≡ self.old) }

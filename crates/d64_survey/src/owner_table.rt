@@ -5,7 +5,7 @@ ghost use Rattle.d64_image.specs.declared.block.TheConstants.{BLOCKS};
 ghost use Rattle.d64_files.specs.Slot.{EntryView};
 ghost use Rattle.d64_survey.specs.Owners.{blocks_from, owned_as, slot_owners};
 ghost use Rattle.d64_survey.specs.OwnerLists.{AreTold};
-ghost use Rattle.d64_survey.specs.OwnerTables.{owner_kept, told_by, row_of, Adds, AddsFew, CountsUpTo};
+ghost use Rattle.d64_survey.specs.OwnerTables.{owner_kept, row_owners, owner_row_of, Adds, AddsFew, CountsUpTo};
 ghost use Rattle.d64_survey.specs.declared.owner.Owner.{Owner};
 
 use crate::owner::{Owner, Part, data_pair, side_pair};
@@ -58,7 +58,7 @@ impl Row {
     /// Adds an owner after the others.
     fn add(&mut self, claimant: Claimant)
         requires { self.old.count < 1000000000 }
-        ensures told { (all : List Owner) → AreTold all (told_by self.old) → AreTold (all ++ owner_kept claimant ∷ []) (told_by self.new) }
+        ensures told { (all : List Owner) → AreTold all (row_owners self.old) → AreTold (all ++ owner_kept claimant ∷ []) (row_owners self.new) }
         ensures count { self.new.count ≡ self.old.count + 1 }
     {
         let place = self.count as usize;
@@ -70,7 +70,7 @@ impl Row {
 
     /// The first eight, in order, and how many there are.
     fn owners(&self) -> Owners
-        ensures { result ≡ told_by self.now }
+        ensures { result ≡ row_owners self.now }
     {
         let mut shown = ArrayVec::new();
         let count = self.count as usize;
@@ -84,7 +84,7 @@ impl Row {
 impl OwnerTable {
     /// The table in which no block has an owner.
     pub(crate) fn empty() -> OwnerTable
-        ensures told { (block : ℕ) → block < BLOCKS → AreTold [] (told_by (row_of result block)) }
+        ensures told { (block : ℕ) → block < BLOCKS → AreTold [] (row_owners (owner_row_of result block)) }
         ensures few { CountsUpTo 0 result }
     {
         OwnerTable {
@@ -97,14 +97,14 @@ impl OwnerTable {
 
     /// How many owners a block has.
     pub(crate) fn count(&self, block: BlockNo) -> u32
-        ensures { result ≡ (row_of self.now block).count }
+        ensures { result ≡ (owner_row_of self.now block).count }
     {
         self.rows[block.index()].count
     }
 
     /// The owners of a block.
     pub(crate) fn owners(&self, block: BlockNo) -> Owners
-        ensures { result ≡ told_by (row_of self.now block) }
+        ensures { result ≡ row_owners (owner_row_of self.now block) }
     {
         self.rows[block.index()].owners()
     }

@@ -17,7 +17,7 @@ use Rattle.d64_image.specs.Patch.{Kept, RisesBetween, restored_image, changed_bl
 use Rattle.d64_undo.specs.History.{History, present_image}
 use Rattle.d64_undo.specs.Records.{LeadAlong, AreRecords}
 use Rattle.d64_undo.specs.SessionFile.{magic, block_file, record_file, file_with, file_of, IsSession}
-use Rattle.d64_undo.specs.ResumeFault.{◌>>=◌, Reading, bytes_at, number_at, after_magic, block_count_at, image_at, counts_at, index_at, block_at, blocks_at, record_file_at, records_at, Parts, parts_at, all_differ, differ_along, session_at, fault_in}
+use Rattle.d64_undo.specs.ResumeFault.{◌>>=◌, ReadPart, bytes_at, number_at, after_magic, block_count_at, image_at, counts_at, index_at, read_block_at, blocks_at, record_file_at, records_at, Parts, parts_at, all_differ, differ_along, session_at, fault_in}
 use Rattle.d64_undo.specs.declared.resume_fault.ResumeFault.{ResumeFault}
 use Rattle.d64_undo.specs.SessionFileLaws.{FilesTell, FilesAreFaultless}
 use Rattle.d64_undo.proofs.Leads.{IsRecord, Held, held, most}
@@ -37,13 +37,13 @@ eight_again : (n : ℕ) (rest : List ℕ) → n < 2 ^ 64 → number_at w64 (to_l
 eight_again n rest h = rw (bytes_again (to_le_bytes w64 n) rest (byte_len w64) refl, from_le_bytes-to_le_bytes_8 n h) refl
 
 block_again : (blocks low index : ℕ) (content rest : List ℕ) → low ≤ index → index < blocks → blocks ≤ 2 ^ 16 → length content ≡ BLOCK_BYTES
-    → block_at blocks low (block_file (index, content) ++ rest) ≡ Ok ((index, content), rest)
-unfolding index_at block_at
+    → read_block_at blocks low (block_file (index, content) ++ rest) ≡ Ok ((index, content), rest)
+unfolding index_at read_block_at
 block_again blocks low index content rest h i most long =
     let regrouped : block_file (index, content) ++ rest ≡ to_le_bytes w16 index ++ (content ++ rest) = append_assoc (to_le_bytes w16 index) content rest in
     let above : nat_lt index low ≡ false = le-ltb _ _ h in
     let below : nat_lt index blocks ≡ true = grind (arith, nat_tests) in
-    ap (block_at blocks low) regrouped
+    ap (read_block_at blocks low) regrouped
     ∙ rw (two_again index (content ++ rest) (omega arith), above, below, bytes_again content rest BLOCK_BYTES long) refl
 
 blocks_again : (patch : Kept) (blocks low : ℕ) (rest : List ℕ) → RisesBetween low blocks patch → blocks ≤ 2 ^ 16 → HaveBlocks patch
@@ -121,7 +121,7 @@ shown_again image rest is =
     let long : length (bytes_of image) ≡ length image * BLOCK_BYTES = length-joined image BLOCK_BYTES (λ k d h. (is.1 k d h).0) in
     let begun : after_magic magic (magic ++ tracks_of (length image) ∷ (bytes_of image ++ rest)) ≡ Ok (tracks_of (length image) ∷ (bytes_of image ++ rest)) =
     magic_again magic (tracks_of (length image) ∷ (bytes_of image ++ rest)) in
-    let after : List ℕ → Reading (List (List ℕ)) =
+    let after : List ℕ → ReadPart (List (List ℕ)) =
     λ (other : List ℕ). block_count_at other >>= λ blocks. bytes_at (blocks.0 * BLOCK_BYTES) blocks.1 >>= λ content.
     Ok (first_chunks BLOCK_BYTES blocks.0 content.0, content.1) in
     ap (λ (reading : Result (List ℕ) ResumeFault). reading >>= after) begun

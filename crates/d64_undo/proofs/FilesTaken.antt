@@ -11,7 +11,7 @@ use Rattle.d64_image.specs.declared.image.TheConstants.{BLOCK_BYTES}
 use Rattle.d64_image.specs.Image.{IsBlock, IsSize, IsImage, blocks_of, tracks_of, bytes_of}
 use Rattle.d64_image.specs.Patch.{Kept, RisesBetween, HaveBlocks}
 use Rattle.d64_undo.specs.SessionFile.{magic, block_file, record_file, file_with}
-use Rattle.d64_undo.specs.ResumeFault.{◌>>=◌, bytes_at, number_at, after_magic, or_not_session, block_count_at, image_at, counts_at, index_at, block_at, blocks_at, record_file_at, records_at, Parts, parts_at}
+use Rattle.d64_undo.specs.ResumeFault.{◌>>=◌, bytes_at, number_at, after_magic, or_not_session, block_count_at, image_at, counts_at, index_at, read_block_at, blocks_at, record_file_at, records_at, Parts, parts_at}
 use Rattle.d64_undo.specs.declared.resume_fault.ResumeFault.{ResumeFault}
 use Rattle.d64_undo.specs.declared.resume_fault.ResumeFault.TheVariants.{NotSession, Truncated, Trailing, BadCursor, BadRecord}
 
@@ -108,9 +108,9 @@ index_takes blocks low bytes x are e =
     subst (λ (y : ℕ × List ℕ). Takes bytes (to_le_bytes w16 y.0) y.1 × (low ≤ y.0) × (y.0 < blocks)) (ok_is a.0 x g.1)
     ((two_take bytes a.0 are a.1).0, ltb-false _ _ sides.0, ltb-true _ _ sides.1)
 
-block_takes : (blocks low : ℕ) (bytes : List ℕ) (x : (ℕ × List ℕ) × List ℕ) → AreBytes bytes → block_at blocks low bytes ≡ Ok x
+block_takes : (blocks low : ℕ) (bytes : List ℕ) (x : (ℕ × List ℕ) × List ℕ) → AreBytes bytes → read_block_at blocks low bytes ≡ Ok x
     → Takes bytes (block_file x.0) x.1 × IsEntry blocks low x.0
-unfolding block_at
+unfolding read_block_at
 block_takes blocks low bytes x are e =
     let a = bind_ok (index_at blocks low bytes) (λ index. bytes_at BLOCK_BYTES index.1 >>= λ content. Ok ((index.0, content.0), content.1)) x e in
     let b = bind_ok (bytes_at BLOCK_BYTES a.0.1) (λ content. Ok ((a.0.0, content.0), content.1)) x a.2 in
@@ -140,7 +140,7 @@ blocks_take zero blocks low bytes x are e =
     subst (λ (y : Kept × List ℕ). Takes bytes (flat_map block_file y.0) y.1 × (length y.0 ≡ 0) × IsRecordOf blocks low y.0) (ok_is made x e)
     (record { parts = refl; left = are }, refl, rises-nil blocks low)
 blocks_take (suc n) blocks low bytes x are e =
-    let a = bind_ok (block_at blocks low bytes) (λ first. blocks_at blocks n (first.0.0 + 1) first.1 >>= λ others. Ok (first.0 ∷ others.0, others.1)) x e in
+    let a = bind_ok (read_block_at blocks low bytes) (λ first. blocks_at blocks n (first.0.0 + 1) first.1 >>= λ others. Ok (first.0 ∷ others.0, others.1)) x e in
     let b = bind_ok (blocks_at blocks n (a.0.0.0 + 1) a.0.1) (λ others. Ok (a.0.0 ∷ others.0, others.1)) x a.2 in
     let first = block_takes blocks low bytes a.0 are a.1 in
     let second = blocks_take n blocks (a.0.0.0 + 1) a.0.1 b.0 first.0.left b.1 in

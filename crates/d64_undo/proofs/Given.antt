@@ -8,7 +8,7 @@ use Rattle.d64_image.specs.Disk.{Disk}
 use Rattle.d64_image.specs.Image.{IsImage, tracks_of, bytes_of}
 use Rattle.d64_image.specs.Patch.{Kept, IsPatchOf, HaveBlocks}
 use Rattle.d64_undo.specs.SessionFile.{magic, record_file, file_with}
-use Rattle.d64_undo.specs.ResumeFault.{◌>>=◌, Reading, image_at, counts_at, record_file_at, records_at, Parts, parts_at}
+use Rattle.d64_undo.specs.ResumeFault.{◌>>=◌, ReadPart, image_at, counts_at, record_file_at, records_at, Parts, parts_at}
 use Rattle.d64_undo.specs.Resuming.{Fails, start_file, start_at, start_seen, IsStarted, IsEndOf, given_bytes}
 use Rattle.d64_undo.specs.declared.file_parts.FileParts.{FileParts}
 use Rattle.d64_undo.specs.declared.resume_fault.ResumeFault.{ResumeFault}
@@ -50,26 +50,26 @@ start_takes bytes x are e =
     (parts, shown.1, counted.1, counted.2)
 
 -- this many bytes are enough to know it
-abbrev after_image : Disk → (ℕ × ℕ) × List ℕ → Reading (Disk × (ℕ × ℕ))
+abbrev after_image : Disk → (ℕ × ℕ) × List ℕ → ReadPart (Disk × (ℕ × ℕ))
 after_image image counts = Ok ((image, counts.0), counts.1)
 
-counts_on : (image : Disk) (more : List ℕ) (reading : Reading (ℕ × ℕ)) → (before_rest more reading >>= after_image image) ≡ before_rest more (reading >>= after_image image)
+counts_on : (image : Disk) (more : List ℕ) (reading : ReadPart (ℕ × ℕ)) → (before_rest more reading >>= after_image image) ≡ before_rest more (reading >>= after_image image)
 counts_on image more (Ok x) = refl
 counts_on image more (Err fault) = refl
 
 pub start_known : KnownBy 196629 start_at
 start_known bytes more h =
     then_known 196613 196613 16 image_at (λ image rest. counts_at rest >>= after_image image) image_known image_taken
-    (λ image rest more h. ap (λ (r : Reading (ℕ × ℕ)). r >>= after_image image) (counts_known rest more h) ∙ counts_on image more (counts_at rest))
+    (λ image rest more h. ap (λ (r : ReadPart (ℕ × ℕ)). r >>= after_image image) (counts_known rest more h) ∙ counts_on image more (counts_at rest))
     (omega arith) bytes more (omega arith)
 
 -- ---- the records
 
-none_on : (reading : Reading (List Kept)) → reading ≡ with_front [] reading
+none_on : (reading : ReadPart (List Kept)) → reading ≡ with_front [] reading
 none_on (Ok x) = refl
 none_on (Err fault) = refl
 
-one_on : (patch : Kept) (patches : List Kept) (reading : Reading (List Kept))
+one_on : (patch : Kept) (patches : List Kept) (reading : ReadPart (List Kept))
     → (with_front patches reading >>= λ others. Ok (patch ∷ others.0, others.1)) ≡ with_front (patch ∷ patches) reading
 one_on patch patches (Ok x) = refl
 one_on patch patches (Err fault) = refl
@@ -98,12 +98,12 @@ ended image done read = cond (length read.1 == 0) (Ok (record { image = image; d
 abbrev after_start : (Disk × (ℕ × ℕ)) × List ℕ → Result Parts ResumeFault
 after_start start = records_at (length start.0.0) start.0.1.1 start.1 >>= ended start.0.0 start.0.1.0
 
-starts_on : (i : Disk × List ℕ) (counts : Reading (ℕ × ℕ))
+starts_on : (i : Disk × List ℕ) (counts : ReadPart (ℕ × ℕ))
     → (counts >>= λ c. records_at (length i.0) c.0.1 c.1 >>= ended i.0 c.0.0) ≡ ((counts >>= after_image i.0) >>= after_start)
 starts_on i (Ok x) = refl
 starts_on i (Err fault) = refl
 
-starts : (image : Reading Disk)
+starts : (image : ReadPart Disk)
     → (image >>= λ i. counts_at i.1 >>= λ c. records_at (length i.0) c.0.1 c.1 >>= ended i.0 c.0.0)
     ≡ ((image >>= λ i. counts_at i.1 >>= after_image i.0) >>= after_start)
 starts (Ok x) = starts_on x (counts_at x.1)
@@ -117,7 +117,7 @@ parts_from_start bytes = starts (image_at bytes)
 abbrev pub left_of : Disk → ℕ → List Kept → List Kept × List ℕ → Result Parts ResumeFault
 left_of image done records read = ended image done (records ++ read.0, read.1)
 
-front_left : (image : Disk) (done : ℕ) (records : List Kept) (reading : Reading (List Kept))
+front_left : (image : Disk) (done : ℕ) (records : List Kept) (reading : ReadPart (List Kept))
     → (with_front records reading >>= ended image done) ≡ (reading >>= left_of image done records)
 front_left image done records (Ok x) = refl
 front_left image done records (Err fault) = refl
@@ -136,9 +136,9 @@ parts_given image done count records rest is within h each some =
     let sum : count ≡ length records + (count - length records) = omega arith in
     let few : length image ≤ 768 = size_few image is in
     parts_from_start (start_file image done count ++ (flat_map record_file records ++ rest))
-    ∙ ap (λ (r : Reading (Disk × (ℕ × ℕ))). r >>= after_start) (start_again image done count (flat_map record_file records ++ rest) is within h)
+    ∙ ap (λ (r : ReadPart (Disk × (ℕ × ℕ))). r >>= after_start) (start_again image done count (flat_map record_file records ++ rest) is within h)
     ∙ ap (λ (k : ℕ). records_at (length image) k (flat_map record_file records ++ rest) >>= ended image done) sum
-    ∙ ap (λ (r : Reading (List Kept)). r >>= ended image done) (records_again_on records (length image) (count - length records) rest few each)
+    ∙ ap (λ (r : ReadPart (List Kept)). r >>= ended image done) (records_again_on records (length image) (count - length records) rest few each)
     ∙ front_left image done records (records_at (length image) (count - length records) rest)
 
 -- ---- faults
@@ -147,7 +147,7 @@ parts_given image done count records rest is within h each some =
 pub start_fails : (fault : ResumeFault) (bytes more : List ℕ) → 196629 ≤ length bytes → Fails fault (start_at bytes) → Fails fault (parts_at (bytes ++ more))
 start_fails fault bytes more enough e =
     subst (Fails fault) (sym (parts_from_start (bytes ++ more)
-    ∙ ap (λ (r : Reading (Disk × (ℕ × ℕ))). r >>= after_start) (start_known bytes more enough)))
+    ∙ ap (λ (r : ReadPart (Disk × (ℕ × ℕ))). r >>= after_start) (start_known bytes more enough)))
     (fails_then fault (before_rest more (start_at bytes)) after_start
     (fails_then fault (start_at bytes) (λ read. Ok (read.0, read.1 ++ more)) e))
 

@@ -5,7 +5,7 @@ use Rattle.std.proofs.lemmas.List.{append-nil, drop_more, take_more, nil_from_le
 use Rattle.std.specs.Int.{w16}
 use Rattle.d64_image.specs.declared.image.TheConstants.{BLOCK_BYTES}
 use Rattle.d64_image.specs.Patch.{Kept, RisesBetween, restored_image}
-use Rattle.d64_undo.specs.ResumeFault.{◌>>=◌, Reading, bytes_at, number_at, after_magic, index_at, block_at, blocks_at, record_file_at, records_at, all_differ, differ_along}
+use Rattle.d64_undo.specs.ResumeFault.{◌>>=◌, ReadPart, bytes_at, number_at, after_magic, index_at, read_block_at, blocks_at, record_file_at, records_at, all_differ, differ_along}
 use Rattle.d64_undo.specs.Resuming.{Fails, on_side}
 use Rattle.d64_undo.specs.declared.resume_fault.ResumeFault.{ResumeFault}
 use Rattle.d64_undo.specs.declared.resume_fault.ResumeFault.TheVariants.{NotSession, Truncated, Trailing, BadCursor, BadRecord, Memory}
@@ -90,16 +90,16 @@ on-next records n next is h = drop_more records n [] h ∙ ap (λ (k : ℕ). get
 -- ---- loops over what is counted
 
 -- what was read before, and what is still read
-abbrev pub with_front : {A : Type 0} → List A → Reading (List A) → Reading (List A)
+abbrev pub with_front : {A : Type 0} → List A → ReadPart (List A) → ReadPart (List A)
 with_front front reading = reading >>= λ read. Ok (front ++ read.0, read.1)
 
-regroup : {A : Type 0} (front : List A) (one : A) (reading : Reading (List A))
+regroup : {A : Type 0} (front : List A) (one : A) (reading : ReadPart (List A))
     → with_front front (reading >>= λ read. Ok (one ∷ read.0, read.1)) ≡ with_front (front ++ one ∷ []) reading
 regroup front one (Ok read) = ap (λ (list : List _). Ok (list, read.1)) (sym (append_assoc front (one ∷ []) read.0))
 regroup front one (Err fault) = refl
 
 -- a record more
-pub records_on : (front : List Kept) (blocks count i : ℕ) (bytes : List ℕ) (one : Kept) (after : List ℕ) (total : Reading (List Kept)) → i < count
+pub records_on : (front : List Kept) (blocks count i : ℕ) (bytes : List ℕ) (one : Kept) (after : List ℕ) (total : ReadPart (List Kept)) → i < count
     → record_file_at blocks bytes ≡ Ok (one, after) → with_front front (records_at blocks (count - i) bytes) ≡ total
     → with_front (front ++ one ∷ []) (records_at blocks (count - (i + 1)) after) ≡ total
 unfolding records_at
@@ -110,7 +110,7 @@ records_on front blocks count i bytes one after total h read so_far =
     sym next ∙ so_far
 
 -- a fault in a record
-pub records_end : (fault : ResumeFault) (front : List Kept) (blocks count i : ℕ) (bytes : List ℕ) (total : Reading (List Kept)) → i < count
+pub records_end : (fault : ResumeFault) (front : List Kept) (blocks count i : ℕ) (bytes : List ℕ) (total : ReadPart (List Kept)) → i < count
     → Fails fault (record_file_at blocks bytes) → with_front front (records_at blocks (count - i) bytes) ≡ total → Fails fault total
 unfolding records_at
 records_end fault front blocks count i bytes total h read so_far =
@@ -119,9 +119,9 @@ records_end fault front blocks count i bytes total h read so_far =
     fails_then fault (record_file_at blocks bytes) (λ first. records_at blocks (count - (i + 1)) first.1 >>= λ others. Ok (first.0 ∷ others.0, others.1)) read in
     let all : Fails fault (with_front front (records_at blocks (suc (count - (i + 1))) bytes)) =
     fails_then fault (records_at blocks (suc (count - (i + 1))) bytes) (λ list. Ok (front ++ list.0, list.1)) one in
-    subst (λ (r : Reading (List Kept)). Fails fault r) (ap (λ (n : ℕ). with_front front (records_at blocks n bytes)) (sym k) ∙ so_far) all
+    subst (λ (r : ReadPart (List Kept)). Fails fault r) (ap (λ (n : ℕ). with_front front (records_at blocks n bytes)) (sym k) ∙ so_far) all
 
-pub records_all_read : (front : List Kept) (blocks count i : ℕ) (bytes : List ℕ) (total : Reading (List Kept)) → count ≤ i
+pub records_all_read : (front : List Kept) (blocks count i : ℕ) (bytes : List ℕ) (total : ReadPart (List Kept)) → count ≤ i
     → with_front front (records_at blocks (count - i) bytes) ≡ total → total ≡ Ok (front, bytes)
 unfolding records_at
 records_all_read front blocks count i bytes total h so_far =
@@ -130,8 +130,8 @@ records_all_read front blocks count i bytes total h so_far =
     sym so_far ∙ one
 
 -- a block more
-pub blocks_on : (front : Kept) (blocks count i low : ℕ) (bytes : List ℕ) (one : ℕ × List ℕ) (after : List ℕ) (total : Reading Kept) → i < count
-    → block_at blocks low bytes ≡ Ok (one, after) → with_front front (blocks_at blocks (count - i) low bytes) ≡ total
+pub blocks_on : (front : Kept) (blocks count i low : ℕ) (bytes : List ℕ) (one : ℕ × List ℕ) (after : List ℕ) (total : ReadPart Kept) → i < count
+    → read_block_at blocks low bytes ≡ Ok (one, after) → with_front front (blocks_at blocks (count - i) low bytes) ≡ total
     → with_front (front ++ one ∷ []) (blocks_at blocks (count - (i + 1)) (one.0 + 1) after) ≡ total
 unfolding blocks_at
 blocks_on front blocks count i low bytes one after total h read so_far =
@@ -141,18 +141,18 @@ blocks_on front blocks count i low bytes one after total h read so_far =
     sym next ∙ so_far
 
 -- a fault in a block
-pub blocks_end : (fault : ResumeFault) (front : Kept) (blocks count i low : ℕ) (bytes : List ℕ) (total : Reading Kept) → i < count
-    → Fails fault (block_at blocks low bytes) → with_front front (blocks_at blocks (count - i) low bytes) ≡ total → Fails fault total
+pub blocks_end : (fault : ResumeFault) (front : Kept) (blocks count i low : ℕ) (bytes : List ℕ) (total : ReadPart Kept) → i < count
+    → Fails fault (read_block_at blocks low bytes) → with_front front (blocks_at blocks (count - i) low bytes) ≡ total → Fails fault total
 unfolding blocks_at
 blocks_end fault front blocks count i low bytes total h read so_far =
     let k : count - i ≡ suc (count - (i + 1)) = omega arith in
     let one : Fails fault (blocks_at blocks (suc (count - (i + 1))) low bytes) =
-    fails_then fault (block_at blocks low bytes) (λ first. blocks_at blocks (count - (i + 1)) (first.0.0 + 1) first.1 >>= λ others. Ok (first.0 ∷ others.0, others.1)) read in
+    fails_then fault (read_block_at blocks low bytes) (λ first. blocks_at blocks (count - (i + 1)) (first.0.0 + 1) first.1 >>= λ others. Ok (first.0 ∷ others.0, others.1)) read in
     let all : Fails fault (with_front front (blocks_at blocks (suc (count - (i + 1))) low bytes)) =
     fails_then fault (blocks_at blocks (suc (count - (i + 1))) low bytes) (λ list. Ok (front ++ list.0, list.1)) one in
-    subst (λ (r : Reading Kept). Fails fault r) (ap (λ (n : ℕ). with_front front (blocks_at blocks n low bytes)) (sym k) ∙ so_far) all
+    subst (λ (r : ReadPart Kept). Fails fault r) (ap (λ (n : ℕ). with_front front (blocks_at blocks n low bytes)) (sym k) ∙ so_far) all
 
-pub blocks_all_read : (front : Kept) (blocks count i low : ℕ) (bytes : List ℕ) (total : Reading Kept) → count ≤ i
+pub blocks_all_read : (front : Kept) (blocks count i low : ℕ) (bytes : List ℕ) (total : ReadPart Kept) → count ≤ i
     → with_front front (blocks_at blocks (count - i) low bytes) ≡ total → total ≡ Ok (front, bytes)
 unfolding blocks_at
 blocks_all_read front blocks count i low bytes total h so_far =
@@ -175,8 +175,8 @@ index_within blocks low bytes x e =
     let sides = either_false (nat_lt a.0.0 low) (nat_lt a.0.0 blocks) g.0 in
     subst (λ (y : ℕ × List ℕ). (low ≤ y.0) × (y.0 < blocks)) (ok_is a.0 x g.1) (ltb-false _ _ sides.0, ltb-true _ _ sides.1)
 
-pub block_within : (blocks low : ℕ) (bytes : List ℕ) (x : (ℕ × List ℕ) × List ℕ) → block_at blocks low bytes ≡ Ok x → (low ≤ x.0.0) × (x.0.0 < blocks)
-unfolding block_at
+pub block_within : (blocks low : ℕ) (bytes : List ℕ) (x : (ℕ × List ℕ) × List ℕ) → read_block_at blocks low bytes ≡ Ok x → (low ≤ x.0.0) × (x.0.0 < blocks)
+unfolding read_block_at
 block_within blocks low bytes x e =
     let a = bind_ok (index_at blocks low bytes) (λ index. bytes_at BLOCK_BYTES index.1 >>= λ content. Ok ((index.0, content.0), content.1)) x e in
     let b = bind_ok (bytes_at BLOCK_BYTES a.0.1) (λ content. Ok ((a.0.0, content.0), content.1)) x a.2 in
@@ -184,7 +184,7 @@ block_within blocks low bytes x e =
     subst (λ (y : (ℕ × List ℕ) × List ℕ). (low ≤ y.0.0) × (y.0.0 < blocks)) (ok_is made x b.2) (index_within blocks low bytes a.0 a.1)
 
 -- nothing was read before
-whole : (reading : Reading Kept) → with_front [] reading ≡ reading
+whole : (reading : ReadPart Kept) → with_front [] reading ≡ reading
 whole (Ok read) = refl
 whole (Err fault) = refl
 

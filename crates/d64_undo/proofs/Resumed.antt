@@ -9,7 +9,7 @@ use Rattle.d64_image.proofs.Patches.{length-restored_image, trimmed_blocks-chang
 use Rattle.d64_undo.specs.History.{History}
 use Rattle.d64_undo.specs.Records.{LeadAlong, images_of, AreRecords}
 use Rattle.d64_undo.specs.SessionFile.{file_of, IsSession}
-use Rattle.d64_undo.specs.ResumeFault.{◌>>=◌, Parts, parts_at, all_differ, differ_along, lead_both_ways, session_at, fault_in, first_fault, fault_number, told_by, refused_by}
+use Rattle.d64_undo.specs.ResumeFault.{◌>>=◌, Parts, parts_at, all_differ, differ_along, lead_both_ways, session_at, fault_in, first_resume_fault, resume_fault_number, reported_by, resume_refused_by}
 use Rattle.d64_undo.specs.Resuming.{Fails, Gives}
 use Rattle.d64_undo.specs.SessionFileLaws.{FaultlessAreFiles, KeptIsResumed}
 use Rattle.d64_undo.specs.declared.resume_fault.ResumeFault.{ResumeFault}
@@ -93,7 +93,7 @@ files bytes are e =
     let is = session_take bytes read.0 are read.1 in
     (history_of read.0.records read.0.image read.0.done, is.session, is.file)
 
-only-memory : (fault : ResumeFault) → told_by fault None ≡ None → fault_number fault ≡ 6
+only-memory : (fault : ResumeFault) → reported_by fault None ≡ None → resume_fault_number fault ≡ 6
 only-memory NotSession e = absurd cc
 only-memory Truncated e = absurd cc
 only-memory Trailing e = absurd cc
@@ -105,11 +105,11 @@ only-memory (Memory error) e = refl
 pub kept-resumed : KeptIsResumed
 kept-resumed history (Ok session) is answer = one_history session history answer.session is answer.file
 kept-resumed history (Err fault) is answer =
-    only-memory fault (subst (λ (first : Option ResumeFault). told_by fault first ≡ first) (faultless history is) answer.refused)
+    only-memory fault (subst (λ (first : Option ResumeFault). reported_by fault first ≡ first) (faultless history is) answer.refused)
 
 -- the fault that was returned is the one that was found
 pub refused-by : {Answer Part : Type 0} (seen : Answer → Part) (result : Result Answer ResumeFault) (reading : Result Part ResumeFault)
-    → Gives seen result reading → refused_by result (fault_in reading) ≡ fault_in reading
+    → Gives seen result reading → resume_refused_by result (fault_in reading) ≡ fault_in reading
 refused-by seen (Ok answer) reading e = sym (ap fault_in e)
 refused-by seen (Err NotSession) reading e = sym (ap fault_in e)
 refused-by seen (Err Truncated) reading e = sym (ap fault_in e)
@@ -119,7 +119,7 @@ refused-by seen (Err BadRecord) reading e = sym (ap fault_in e)
 refused-by seen (Err (Memory error)) reading e = refl
 
 -- what was a fault of the parts is one of the session
-pub session_fails : (fault : ResumeFault) (bytes : List ℕ) → Fails fault (parts_at bytes) → told_by fault (first_fault bytes) ≡ first_fault bytes
+pub session_fails : (fault : ResumeFault) (bytes : List ℕ) → Fails fault (parts_at bytes) → reported_by fault (first_resume_fault bytes) ≡ first_resume_fault bytes
 unfolding session_at
 session_fails fault bytes e =
     let history : Result Parts ResumeFault = Err fault in
@@ -135,11 +135,11 @@ tested bytes parts t e f =
     ∙ ap (λ (u : Bool). cond u (Ok parts) (Err BadRecord)) f
 
 pub no_difference : (bytes : List ℕ) (parts : Parts) → parts_at bytes ≡ Ok parts → lead_both_ways parts.image parts.done parts.records ≡ false
-    → Some BadRecord ≡ first_fault bytes
+    → Some BadRecord ≡ first_resume_fault bytes
 no_difference bytes parts e f = sym (ap fault_in (tested bytes parts false e f))
 
 pub all_difference : (bytes : List ℕ) (parts : Parts) → parts_at bytes ≡ Ok parts → lead_both_ways parts.image parts.done parts.records ≡ true
-    → None ≡ first_fault bytes
+    → None ≡ first_resume_fault bytes
 all_difference bytes parts e f = sym (ap fault_in (tested bytes parts true e f))
 
 -- the parts that were read from bytes

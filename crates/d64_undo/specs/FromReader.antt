@@ -4,7 +4,7 @@ use Rattle.d64_image.specs.Disk.{Bytes}
 use Rattle.d64_effects.specs.Laws.{AreBytes}
 use Rattle.d64_undo.specs.History.{History}
 use Rattle.d64_undo.specs.SessionFile.{file_of, IsSession}
-use Rattle.d64_undo.specs.ResumeFault.{first_fault, told_by}
+use Rattle.d64_undo.specs.ResumeFault.{first_resume_fault, reported_by}
 use Rattle.d64_undo.specs.declared.from_reader.ReadFault.{ReadFault}
 use Rattle.d64_undo.specs.declared.from_reader.ReadFault.TheVariants.{Device, TooLong, Resume}
 
@@ -17,7 +17,7 @@ abbrev pub IsReadFault : Option Bytes → ℕ → ReadFault → Type 0
 IsReadFault told limit Device = Unit {0}
 IsReadFault told limit TooLong = IfSome told (λ bytes. limit < length bytes)
 IsReadFault told limit (Resume fault) =
-    (bytes : Bytes) × AreBytes bytes × IfSome told (λ all. all ≡ bytes) × (length bytes ≤ limit) × (told_by fault (first_fault bytes) ≡ first_fault bytes)
+    (bytes : Bytes) × AreBytes bytes × IfSome told (λ all. all ≡ bytes) × (length bytes ≤ limit) × (reported_by fault (first_resume_fault bytes) ≡ first_resume_fault bytes)
 
 -- a fault of reading what is left: of a read, or of one byte too many, but not of the bytes
 abbrev pub IsRestFault : Option Bytes → ℕ → ReadFault → Type 0

@@ -13,17 +13,17 @@ use Rattle.d64_undo.specs.declared.resume_fault.ResumeFault.{ResumeFault}
 use Rattle.d64_undo.specs.declared.resume_fault.ResumeFault.TheVariants.{NotSession, Truncated, Trailing, BadCursor, BadRecord, Memory}
 
 -- the fault's number
-abbrev pub fault_number : ResumeFault → ℕ
-fault_number NotSession = 1
-fault_number Truncated = 2
-fault_number Trailing = 3
-fault_number BadCursor = 4
-fault_number BadRecord = 5
-fault_number (Memory error) = 6
+abbrev pub resume_fault_number : ResumeFault → ℕ
+resume_fault_number NotSession = 1
+resume_fault_number Truncated = 2
+resume_fault_number Trailing = 3
+resume_fault_number BadCursor = 4
+resume_fault_number BadRecord = 5
+resume_fault_number (Memory error) = 6
 
 -- what reading bytes gives: a part and the bytes after it, or the first fault
-abbrev pub Reading : Type 0 → Type 0
-Reading Part = Result (Part × Bytes) ResumeFault
+abbrev pub ReadPart : Type 0 → Type 0
+ReadPart Part = Result (Part × Bytes) ResumeFault
 
 -- reading goes on after a part without a fault
 infixl 10 ◌>>=◌
@@ -32,11 +32,11 @@ abbrev pub ◌>>=◌ : {A B : Type 0} → Result A ResumeFault → (A → Result
 (Err fault) >>= next = Err fault
 
 -- reads n bytes
-abbrev pub bytes_at : ℕ → Bytes → Reading Bytes
+abbrev pub bytes_at : ℕ → Bytes → ReadPart Bytes
 bytes_at count bytes = if nat_lt (length bytes) count then Err Truncated else Ok (take count bytes, drop count bytes)
 
 -- reads a number, low byte first
-abbrev pub number_at : Width → Bytes → Reading ℕ
+abbrev pub number_at : Width → Bytes → ReadPart ℕ
 number_at width bytes = do
   digits ← bytes_at (byte_len width) bytes
   Ok (from_le_bytes width digits.0, digits.1)
@@ -53,14 +53,14 @@ or_not_session None = Err NotSession
 or_not_session (Some part) = Ok part
 
 -- reads how many blocks the image has, by the number of the disk's tracks
-unfoldable pub block_count_at : Bytes → Reading ℕ
+unfoldable pub block_count_at : Bytes → ReadPart ℕ
 block_count_at [] = Err Truncated
 block_count_at (tracks ∷ bytes) = do
   blocks ← or_not_session (blocks_of tracks)
   Ok (blocks, bytes)
 
 -- reads the beginning and the image
-unfoldable pub image_at : Bytes → Reading Disk
+unfoldable pub image_at : Bytes → ReadPart Disk
 image_at bytes = do
   rest ← after_magic magic bytes
   blocks ← block_count_at rest
@@ -68,41 +68,41 @@ image_at bytes = do
   Ok (first_chunks BLOCK_BYTES blocks.0 content.0, content.1)
 
 -- reads how many records are done, and how many there are
-unfoldable pub counts_at : Bytes → Reading (ℕ × ℕ)
+unfoldable pub counts_at : Bytes → ReadPart (ℕ × ℕ)
 counts_at bytes = do
   done ← number_at w64 bytes
   count ← number_at w64 done.1
   if nat_lt count.0 done.0 then Err BadCursor else Ok ((done.0, count.0), count.1)
 
 -- reads the index of a block, from a number on, of an image of n blocks
-unfoldable pub index_at : ℕ → ℕ → Bytes → Reading ℕ
+unfoldable pub index_at : ℕ → ℕ → Bytes → ReadPart ℕ
 index_at blocks low bytes = do
   index ← number_at w16 bytes
   if nat_lt index.0 low || not (nat_lt index.0 blocks) then Err BadRecord else Ok index
 
 -- reads the index of such a block, and its bytes
-unfoldable pub block_at : ℕ → ℕ → Bytes → Reading (ℕ × Bytes)
-block_at blocks low bytes = do
+unfoldable pub read_block_at : ℕ → ℕ → Bytes → ReadPart (ℕ × Bytes)
+read_block_at blocks low bytes = do
   index ← index_at blocks low bytes
   content ← bytes_at BLOCK_BYTES index.1
   Ok ((index.0, content.0), content.1)
 
 -- reads a number of blocks, ascending from a number on
-unfoldable pub blocks_at : ℕ → ℕ → ℕ → Bytes → Reading Kept
+unfoldable pub blocks_at : ℕ → ℕ → ℕ → Bytes → ReadPart Kept
 blocks_at blocks zero low bytes = Ok ([], bytes)
 blocks_at blocks (suc count) low bytes = do
-  first ← block_at blocks low bytes
+  first ← read_block_at blocks low bytes
   others ← blocks_at blocks count (first.0.0 + 1) first.1
   Ok (first.0 ∷ others.0, others.1)
 
 -- reads a record: how many blocks it has, and these
-unfoldable pub record_file_at : ℕ → Bytes → Reading Kept
+unfoldable pub record_file_at : ℕ → Bytes → ReadPart Kept
 record_file_at blocks bytes = do
   count ← number_at w16 bytes
   blocks_at blocks count.0 0 count.1
 
 -- reads a number of records of an image of n blocks
-unfoldable pub records_at : ℕ → ℕ → Bytes → Reading (List Kept)
+unfoldable pub records_at : ℕ → ℕ → Bytes → ReadPart (List Kept)
 records_at blocks zero bytes = Ok ([], bytes)
 records_at blocks (suc count) bytes = do
   first ← record_file_at blocks bytes
@@ -150,20 +150,20 @@ fault_in (Ok parts) = None
 fault_in (Err fault) = Some fault
 
 -- the first fault of bytes that are no session file; None if they are one
-abbrev pub first_fault : Bytes → Option ResumeFault
-first_fault bytes = fault_in (session_at bytes)
+abbrev pub first_resume_fault : Bytes → Option ResumeFault
+first_resume_fault bytes = fault_in (session_at bytes)
 
 -- the fault that a refusal reports; if memory was out, the one that would have been reported
-abbrev pub told_by : ResumeFault → Option ResumeFault → Option ResumeFault
-told_by NotSession other = Some NotSession
-told_by Truncated other = Some Truncated
-told_by Trailing other = Some Trailing
-told_by BadCursor other = Some BadCursor
-told_by BadRecord other = Some BadRecord
-told_by (Memory error) other = other
+abbrev pub reported_by : ResumeFault → Option ResumeFault → Option ResumeFault
+reported_by NotSession other = Some NotSession
+reported_by Truncated other = Some Truncated
+reported_by Trailing other = Some Trailing
+reported_by BadCursor other = Some BadCursor
+reported_by BadRecord other = Some BadRecord
+reported_by (Memory error) other = other
 
 -- the fault for which bytes were refused; None if they were accepted; if memory was out, the one
 -- that would have been reported
-abbrev pub refused_by : {A : Type 0} → Result A ResumeFault → Option ResumeFault → Option ResumeFault
-refused_by (Ok session) other = None
-refused_by (Err fault) other = told_by fault other
+abbrev pub resume_refused_by : {A : Type 0} → Result A ResumeFault → Option ResumeFault → Option ResumeFault
+resume_refused_by (Ok session) other = None
+resume_refused_by (Err fault) other = reported_by fault other

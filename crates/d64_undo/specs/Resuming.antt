@@ -6,7 +6,7 @@ use Rattle.d64_image.specs.Disk.{Disk, Bytes}
 use Rattle.d64_image.specs.Image.{IsImage, tracks_of, bytes_of}
 use Rattle.d64_image.specs.Patch.{Kept, IsPatchOf, HaveBlocks}
 use Rattle.d64_undo.specs.SessionFile.{magic, record_file}
-use Rattle.d64_undo.specs.ResumeFault.{◌>>=◌, Reading, image_at, counts_at}
+use Rattle.d64_undo.specs.ResumeFault.{◌>>=◌, ReadPart, image_at, counts_at}
 use Rattle.d64_undo.specs.declared.resume_fault.ResumeFault.{ResumeFault}
 use Rattle.d64_undo.specs.declared.resume_fault.ResumeFault.TheVariants.{NotSession, Truncated, Trailing, BadCursor, BadRecord, Memory}
 use Rattle.d64_undo.specs.declared.file_parts.FileParts.{FileParts}
@@ -30,7 +30,7 @@ abbrev pub start_file : Disk → ℕ → ℕ → Bytes
 start_file image done count = magic ++ tracks_of (length image) ∷ bytes_of image ++ to_le_bytes w64 done ++ to_le_bytes w64 count
 
 -- reads what comes before the records: the image, how many records are done, and how many there are
-abbrev pub start_at : Bytes → Reading (Disk × (ℕ × ℕ))
+abbrev pub start_at : Bytes → ReadPart (Disk × (ℕ × ℕ))
 start_at bytes = do
   image ← image_at bytes
   counts ← counts_at image.1

@@ -3,7 +3,7 @@ use Rattle.std.specs.Prelude.{◌≡◌, ◌<◌, All, None, Result, Ok, Err, If
 use Rattle.d64_image.specs.Disk.{Bytes}
 use Rattle.d64_undo.specs.History.{History}
 use Rattle.d64_undo.specs.SessionFile.{file_of, IsSession}
-use Rattle.d64_undo.specs.ResumeFault.{first_fault, fault_number, refused_by}
+use Rattle.d64_undo.specs.ResumeFault.{first_resume_fault, resume_fault_number, resume_refused_by}
 use Rattle.d64_undo.specs.declared.resume_fault.ResumeFault.{ResumeFault}
 
 -- bytes are the file of at most one history
@@ -12,23 +12,23 @@ FilesTell = (history other : History) → IsSession history → IsSession other 
 
 -- the file of a history has no fault
 abbrev pub FilesAreFaultless : Type 0
-FilesAreFaultless = (history : History) → IsSession history → first_fault (file_of history) ≡ None
+FilesAreFaultless = (history : History) → IsSession history → first_resume_fault (file_of history) ≡ None
 
 -- bytes without a fault are the file of a history
 abbrev pub FaultlessAreFiles : Type 0
 FaultlessAreFiles =
-    (bytes : Bytes) → All (λ byte. byte < 256) bytes → first_fault bytes ≡ None → (history : History) × IsSession history × (file_of history ≡ bytes)
+    (bytes : Bytes) → All (λ byte. byte < 256) bytes → first_resume_fault bytes ≡ None → (history : History) × IsSession history × (file_of history ≡ bytes)
 
 -- what `resume` can return for some bytes
 pub record IsAnswer (bytes : Bytes) (answer : Result History ResumeFault) : Type 0 where
-  pub refused : refused_by answer (first_fault bytes) ≡ first_fault bytes
+  pub refused : resume_refused_by answer (first_resume_fault bytes) ≡ first_resume_fault bytes
   pub file : IfOk answer (λ session. file_of session ≡ bytes)
   pub session : IfOk answer IsSession
 
 -- the result is that history, or that memory is out
 abbrev pub IsOrMemory : History → Result History ResumeFault → Type 0
 IsOrMemory history (Ok session) = session ≡ history
-IsOrMemory history (Err fault) = fault_number fault ≡ 6
+IsOrMemory history (Err fault) = resume_fault_number fault ≡ 6
 
 -- what was kept is resumed with the same history and cursor
 abbrev pub KeptIsResumed : Type 0

@@ -7,7 +7,7 @@ ghost use Rattle.d64_image.specs.Disk.{Bytes};
 ghost use Rattle.d64_image.specs.Image.{IsSize, is_image_length};
 ghost use Rattle.d64_image.specs.declared.block.TheConstants.{BLOCKS};
 ghost use Rattle.d64_image.specs.declared.image.TheConstants.{BLOCK_BYTES};
-ghost use Rattle.d64_undo.specs.ResumeFault.{bytes_at, number_at, after_magic, block_count_at, image_at, counts_at, index_at, block_at, blocks_at, record_file_at};
+ghost use Rattle.d64_undo.specs.ResumeFault.{bytes_at, number_at, after_magic, block_count_at, image_at, counts_at, index_at, read_block_at, blocks_at, record_file_at};
 ghost use Rattle.d64_undo.specs.Resuming.{Gives, Fails, IsEndOf, IsStarted, start_at, start_seen};
 ghost use Rattle.d64_undo.specs.SessionFile.{magic, record_file};
 
@@ -147,14 +147,14 @@ fn read_index(bytes: &[u8], low: usize, blocks: usize) -> Result<(BlockNo, &[u8]
 }
 
 /// Reads the index of such a block, and its bytes.
-#[tactic(auto, unfolding(crate::specs::ResumeFault::block_at))]
+#[tactic(auto, unfolding(crate::specs::ResumeFault::read_block_at))]
 fn read_block<'a>(
     bytes: &'a [u8],
     low: usize,
     blocks: usize,
 ) -> Result<((BlockNo, &'a [u8; BLOCK_BYTES]), &'a [u8]), ResumeFault>
     requires { blocks ≤ BLOCKS }
-    ensures { Gives (λ x. ((x.0.0, x.0.1.now), x.1.now)) result (block_at blocks low bytes.now) }
+    ensures { Gives (λ x. ((x.0.0, x.0.1.now), x.1.now)) result (read_block_at blocks low bytes.now) }
 {
     match read_index(bytes, low, blocks) {
         Ok((block, rest)) => match rest.split_first_chunk::<BLOCK_BYTES>() {

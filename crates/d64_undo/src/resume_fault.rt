@@ -1,6 +1,6 @@
 //! Why bytes are no session file.
 ghost use Rattle.std.specs.Prelude.{◌≡◌};
-ghost use Rattle.d64_undo.specs.ResumeFault.{fault_number};
+ghost use Rattle.d64_undo.specs.ResumeFault.{resume_fault_number};
 
 use std::alloc::AllocError;
 use thiserror::Error;
@@ -32,7 +32,7 @@ pub enum ResumeFault {
 impl ResumeFault {
     /// The fault's number, from 1 to 6 in the order of the variants.
     pub fn number(self) -> u8
-        ensures { result ≡ fault_number self }
+        ensures { result ≡ resume_fault_number self }
     {
         match self {
             ResumeFault::NotSession => 1,

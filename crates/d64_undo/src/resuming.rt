@@ -1,7 +1,7 @@
 //! Resuming session files, piece by piece.
 ghost use Rattle.std.specs.Prelude.{◌≡◌, ◌++◌, ◌≤◌, Some, [], length, drop, IfOk, IfErr, OnOk};
 ghost use Rattle.d64_image.specs.Disk.{Bytes};
-ghost use Rattle.d64_undo.specs.ResumeFault.{first_fault, refused_by, told_by, parts_at};
+ghost use Rattle.d64_undo.specs.ResumeFault.{first_resume_fault, resume_refused_by, reported_by, parts_at};
 ghost use Rattle.d64_undo.specs.declared.resuming.TheConstants.{PART_BYTES};
 ghost use Rattle.d64_undo.specs.Resuming.{AreStarted, Fails, IsEndOf, IsStarted, given_bytes};
 ghost use Rattle.d64_undo.specs.SessionFile.{file_of, IsSession};
@@ -68,7 +68,7 @@ impl Resuming {
     /// whatever comes after them, or that memory is out. It allocates what the session holds.
     pub fn push(&mut self, piece: &[u8]) -> Result<(), ResumeFault>
         ensures given { OnOk result (self.new ≡ self.old ++ piece.now) }
-        ensures refused { IfErr result (λ fault. (more : Bytes) → told_by fault (first_fault (self.old ++ piece.now ++ more)) ≡ first_fault (self.old ++ piece.now ++ more)) }
+        ensures refused { IfErr result (λ fault. (more : Bytes) → reported_by fault (first_resume_fault (self.old ++ piece.now ++ more)) ≡ first_resume_fault (self.old ++ piece.now ++ more)) }
     {
         self.rest.extend_from_slice(piece)?;
         self.read_on()
@@ -94,7 +94,7 @@ impl Resuming {
     /// or that memory is out, which may come in place of any result. It allocates one more image
     /// while it checks the records.
     pub fn finish(self) -> Result<Session, ResumeFault>
-        ensures refused { refused_by result (first_fault self) ≡ first_fault self }
+        ensures refused { resume_refused_by result (first_resume_fault self) ≡ first_resume_fault self }
         ensures file { IfOk result (λ session. file_of session ≡ self) }
         ensures session { IfOk result IsSession }
     {
@@ -127,7 +127,7 @@ fn started(
 /// The session of the parts that were read of a file, and of the bytes after them.
 fn session_of(alloc: Global, parts: Option<FileParts>, rest: &[u8]) -> Result<Session, ResumeFault>
     requires { AreStarted parts }
-    ensures refused { refused_by result (first_fault (given_bytes parts rest.now)) ≡ first_fault (given_bytes parts rest.now) }
+    ensures refused { resume_refused_by result (first_resume_fault (given_bytes parts rest.now)) ≡ first_resume_fault (given_bytes parts rest.now) }
     ensures file { IfOk result (λ session. file_of session ≡ given_bytes parts rest.now) }
     ensures session { IfOk result IsSession }
 {
@@ -147,7 +147,7 @@ fn session_of(alloc: Global, parts: Option<FileParts>, rest: &[u8]) -> Result<Se
 /// them, or that memory is out, which may come in place of any result. It allocates the session,
 /// and one more image while it reads.
 pub fn resume(alloc: Global, bytes: &[u8]) -> Result<Session, ResumeFault>
-    ensures refused { refused_by result (first_fault bytes.now) ≡ first_fault bytes.now }
+    ensures refused { resume_refused_by result (first_resume_fault bytes.now) ≡ first_resume_fault bytes.now }
     ensures file { IfOk result (λ session. file_of session ≡ bytes.now) }
     ensures session { IfOk result IsSession }
 {

@@ -2,7 +2,7 @@
 use Rattle.std.proofs.Common.{◌≡◌, ℕ, ◌-◌, ◌≤◌, Bool, List, ◌++◌, length, take, drop, sym, ap, ◌∙◌, append_assoc, arith}
 use Rattle.std.proofs.lemmas.List.{take_at, drop_at, length-append}
 use Rattle.host_names.specs.declared.ending.Ending.{Ending}
-use Rattle.host_names.specs.HostName.{stem, tail, mark, numbered_name}
+use Rattle.host_names.specs.HostName.{stem, tail, number_mark, numbered_name}
 use Rattle.host_names.specs.TakenNames.{first_free, next_name}
 
 -- the end of a name, and the part before it
@@ -27,16 +27,16 @@ next_is taken text begun whole new place number ending is_part begun_is at whole
 pub end_fits : (front back new : List ℕ) (number size : ℕ) → size ≡ length back → new ≡ numbered_name front back number → size ≤ length new
 unfolding numbered_name
 end_fits front back new number size size_is is =
-    omega (arith, ap length is, length-append front (mark number ++ back), length-append (mark number) back)
+    omega (arith, ap length is, length-append front (number_mark number ++ back), length-append (number_mark number) back)
 
 pub end_at : (front back new : List ℕ) (number size : ℕ) → size ≡ length back → new ≡ numbered_name front back number → drop (length new - size) new ≡ back
 unfolding numbered_name
 end_at front back new number size size_is is =
-    let parted : new ≡ (front ++ mark number) ++ back = is ∙ sym (append_assoc front (mark number) back) in
-    tail_at (front ++ mark number) back new (length new - size)
-    (omega (arith, ap length parted, length-append (front ++ mark number) back)) parted
+    let parted : new ≡ (front ++ number_mark number) ++ back = is ∙ sym (append_assoc front (number_mark number) back) in
+    tail_at (front ++ number_mark number) back new (length new - size)
+    (omega (arith, ap length parted, length-append (front ++ number_mark number) back)) parted
 
 -- a numbered name begins with what it is made of
 pub numbered_front : (front back : List ℕ) (number place : ℕ) → length front ≡ place → take place (numbered_name front back number) ≡ front
 unfolding numbered_name
-numbered_front front back number place at = take_at front (mark number ++ back) place at
+numbered_front front back number place at = take_at front (number_mark number ++ back) place at

@@ -11,10 +11,10 @@ use Rattle.std.proofs.lemmas.List.Elements.{All-nil, All-push, All-set, All-weak
 use Rattle.std.proofs.lemmas.List.Folds.{list_any_none, list_any_at}
 use Rattle.host_names.specs.declared.ending.Ending.{Ending}
 use Rattle.host_names.specs.declared.taken_names.Taken.{Taken}
-use Rattle.host_names.specs.Digest.{digest_of}
+use Rattle.host_names.specs.Digest.{name_digest}
 use Rattle.host_names.specs.HostName.{is_same_name, numbered_name, tail}
 use Rattle.host_names.specs.TakenNames.{is_taken, first_free}
-use Rattle.host_names.specs.Records.{names_of, EndsAt, AreTried, IsRecord, AreRecords}
+use Rattle.host_names.specs.Records.{names_of, HasEndingAt, AreTried, IsRecord, AreNameRecords}
 use Rattle.host_names.proofs.SameNames.{same_laws, lower_from_same, taken_alike, taken_still, last_taken}
 use Rattle.host_names.proofs.Numbers.{same_parts, first_mark}
 use Rattle.host_names.proofs.Search.{before_first_free}
@@ -25,8 +25,8 @@ pub names-nil : names_of [] ≡ []
 unfolding names_of
 names-nil = refl
 
-pub records-nil : AreRecords []
-unfolding AreRecords
+pub records-nil : AreNameRecords []
+unfolding AreNameRecords
 records-nil = All-nil (IsRecord (names_of []))
 
 -- as many names as records
@@ -35,8 +35,8 @@ unfolding names_of
 length-names records = length-map records (λ taken. taken.name.items)
 
 -- one record of them
-pub record_at : (records : List Taken) → AreRecords records → (place : ℕ) (d : Taken) → place < length records → IsRecord (names_of records) (get_or records place d)
-unfolding AreRecords
+pub record_at : (records : List Taken) → AreNameRecords records → (place : ℕ) (d : Taken) → place < length records → IsRecord (names_of records) (get_or records place d)
+unfolding AreNameRecords
 record_at records all place d within = all place d within
 
 -- no record is of the name: it isn't taken
@@ -75,7 +75,7 @@ BeginsAt records name stem_len back first =
 
 -- the names that are made of a record are those that are made of a name that is the same
 pub made_alike : (names : List (List ℕ)) (taken : Taken) (name : List ℕ) (stem_len number : ℕ) (ending : Ending) (is_part : Bool)
-    → is_same_name taken.name.items name ≡ true → taken.stem_len ≤ length taken.name.items → EndsAt taken.name.items taken.stem_len
+    → is_same_name taken.name.items name ≡ true → taken.stem_len ≤ length taken.name.items → HasEndingAt taken.name.items taken.stem_len
     → stem_len ≤ length name → drop stem_len name ≡ tail ending is_part
     → is_same_name (numbered_name (take stem_len name) (tail ending is_part) number) (numbered_name (take taken.stem_len taken.name.items) (drop taken.stem_len taken.name.items) number) ≡ true
 made_alike names taken name stem_len number ending is_part same within ends fits is =
@@ -90,7 +90,7 @@ made_alike names taken name stem_len number ending is_part same within ends fits
 
 -- the record of a name that is the same gives the beginning of the search
 begins_at_record : (records : List Taken) (name : List ℕ) (stem_len : ℕ) (ending : Ending) (is_part : Bool) (place first : ℕ)
-    → AreRecords records → stem_len ≤ length name → drop stem_len name ≡ tail ending is_part → place < length records
+    → AreNameRecords records → stem_len ≤ length name → drop stem_len name ≡ tail ending is_part → place < length records
     → HoldsAt (λ taken. is_same_name taken.name.items name ≡ true) records place → HoldsAt (λ taken. first ≡ taken.next) records place
     → BeginsAt records name stem_len (tail ending is_part) first
 begins_at_record [] name stem_len ending is_part place first all fits is within same next = absurd (omega arith)
@@ -107,7 +107,7 @@ begins_at_record (one ∷ records) name stem_len ending is_part place first all 
     )
 
 pub begins_at : (records : List Taken) (name : List ℕ) (stem_len : ℕ) (ending : Ending) (is_part : Bool) (found : Option ℕ) (first : ℕ)
-    → AreRecords records → stem_len ≤ length name → drop stem_len name ≡ tail ending is_part → IfSome found (λ place. place < length records)
+    → AreNameRecords records → stem_len ≤ length name → drop stem_len name ≡ tail ending is_part → IfSome found (λ place. place < length records)
     → MatchOption found (is_taken (names_of records) name ≡ false) (λ place. HoldsAt (λ taken. is_same_name taken.name.items name ≡ true) records place)
     → MatchOption found (first ≡ 1) (λ place. HoldsAt (λ taken. first ≡ taken.next) records place)
     → BeginsAt records name stem_len (tail ending is_part) first
@@ -130,9 +130,9 @@ passed_names records place next d within =
     ∙ ap (set (map name_of records) place) (sym (get_or-map name_of records place d d.name.items within))
     ∙ set-get_or (map name_of records) place d.name.items
 
-pub passed_records : (records : List Taken) (place next : ℕ) (d : Taken) → place < length records → AreRecords records → 1 ≤ next
-    → AreTried (names_of records) (get_or records place d) next → AreRecords (set records place (with_next (get_or records place d) next))
-unfolding AreRecords
+pub passed_records : (records : List Taken) (place next : ℕ) (d : Taken) → place < length records → AreNameRecords records → 1 ≤ next
+    → AreTried (names_of records) (get_or records place d) next → AreNameRecords (set records place (with_next (get_or records place d) next))
+unfolding AreNameRecords
 passed_records records place next d within all from tried =
     let old = all place d within in
     let after = set records place (with_next (get_or records place d) next) in
@@ -160,9 +160,9 @@ still_record names more taken holds = record {
   tried = λ number low below. taken_still names more (numbered_name (take taken.stem_len taken.name.items) (drop taken.stem_len taken.name.items) number) (holds.tried number low below);
 }
 
-pub kept_records : (records : List Taken) (taken : Taken) → AreRecords records → taken.digest ≡ digest_of taken.name.items → taken.stem_len ≤ length taken.name.items
-    → EndsAt taken.name.items taken.stem_len → taken.next ≡ 2 → AreRecords (records ++ taken ∷ [])
-unfolding AreRecords
+pub kept_records : (records : List Taken) (taken : Taken) → AreNameRecords records → taken.digest ≡ name_digest taken.name.items → taken.stem_len ≤ length taken.name.items
+    → HasEndingAt taken.name.items taken.stem_len → taken.next ≡ 2 → AreNameRecords (records ++ taken ∷ [])
+unfolding AreNameRecords
 kept_records records taken all digest within ends next =
     let name = taken.name.items in
     let names = names_of records ++ name ∷ [] in
@@ -183,7 +183,7 @@ kept_records records taken all digest within ends next =
 -- once a name is kept that is the first free one, the names up to it that are made of a record are
 -- taken
 pub tried_all : (records : List Taken) (name new : List ℕ) (stem_len place : ℕ) (d : Taken) (ending : Ending) (is_part : Bool)
-    → AreRecords records → stem_len ≤ length name → drop stem_len name ≡ tail ending is_part → place < length records
+    → AreNameRecords records → stem_len ≤ length name → drop stem_len name ≡ tail ending is_part → place < length records
     → is_same_name (get_or records place d).name.items name ≡ true
     → new ≡ numbered_name (take stem_len name) (tail ending is_part) (first_free (names_of records) (take stem_len name) (tail ending is_part))
     → AreTried (names_of records ++ new ∷ []) (get_or records place d) (first_free (names_of records) (take stem_len name) (tail ending is_part) + 1)

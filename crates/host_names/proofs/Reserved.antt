@@ -10,7 +10,7 @@ use Rattle.std.proofs.lemmas.List.{map-append, length-append}
 use Rattle.std.proofs.lemmas.List.Folds.{list_all-append}
 use Rattle.host_names.specs.declared.ending.Ending.{Ending}
 use Rattle.host_names.specs.declared.ending.Ending.TheVariants.{Del, Seq, Prg, Usr, Rel, Deleted, Orphan}
-use Rattle.host_names.specs.HostName.{full_stop, underscore, is_same_name, before_dot, device_name, without_last_spaces, devices, ports, is_port, is_reserved, allowed_name, unhidden_name, closed_name, filled_name, unreserved_name, stem, ending_text, part_text, tail, mark, numbered_name}
+use Rattle.host_names.specs.HostName.{full_stop, underscore, is_same_name, before_dot, device_name, without_last_spaces, devices, ports, is_port, is_reserved, allowed_name, unhidden_name, closed_name, filled_name, unreserved_name, stem, ending_text, part_ending, tail, number_mark, numbered_name}
 use Rattle.host_names.specs.TakenNames.{first_free, next_name}
 use Rattle.host_names.proofs.SameNames.{lower_from_same}
 use Rattle.host_names.proofs.Numbers.{first_mark, other_mark}
@@ -113,14 +113,14 @@ before-append (byte ∷ front) rest = by_test (before-append front rest) (byte =
 
 -- nothing is before the full stop of an end
 before_tail : (ending : Ending) (is_part : Bool) → before_dot (tail ending is_part) ≡ []
-unfolding tail ending_text part_text
-before_tail Del is_part = before_stop 46 (codes "del" ++ part_text is_part) refl
-before_tail Seq is_part = before_stop 46 (codes "seq" ++ part_text is_part) refl
-before_tail Prg is_part = before_stop 46 (codes "prg" ++ part_text is_part) refl
-before_tail Usr is_part = before_stop 46 (codes "usr" ++ part_text is_part) refl
-before_tail Rel is_part = before_stop 46 (codes "rel" ++ part_text is_part) refl
-before_tail Deleted is_part = before_stop 46 (codes "deleted" ++ part_text is_part) refl
-before_tail Orphan is_part = before_stop 46 (codes "orphan" ++ part_text is_part) refl
+unfolding tail ending_text part_ending
+before_tail Del is_part = before_stop 46 (codes "del" ++ part_ending is_part) refl
+before_tail Seq is_part = before_stop 46 (codes "seq" ++ part_ending is_part) refl
+before_tail Prg is_part = before_stop 46 (codes "prg" ++ part_ending is_part) refl
+before_tail Usr is_part = before_stop 46 (codes "usr" ++ part_ending is_part) refl
+before_tail Rel is_part = before_stop 46 (codes "rel" ++ part_ending is_part) refl
+before_tail Deleted is_part = before_stop 46 (codes "deleted" ++ part_ending is_part) refl
+before_tail Orphan is_part = before_stop 46 (codes "orphan" ++ part_ending is_part) refl
 
 -- ---- names
 
@@ -155,16 +155,16 @@ numbered_free : (front : List ℕ) (number : ℕ) (ending : Ending) (is_part : B
     → is_reserved (device_name (numbered_name front (tail ending is_part) number)) ≡ false
 unfolding numbered_name
 numbered_free front number ending is_part free =
-    elim (before-append front (mark number ++ tail ending is_part)) [
+    elim (before-append front (number_mark number ++ tail ending is_part)) [
       | inl same ↦ ap is_device same ∙ free
       | inr both ↦ elim (cases_eq number 1) [
         | inl one ↦
-            let none : before_dot (mark number ++ tail ending is_part) ≡ [] =
-            ap (λ (bs : List ℕ). before_dot (bs ++ tail ending is_part)) (ap mark one ∙ first_mark) ∙ before_tail ending is_part in
+            let none : before_dot (number_mark number ++ tail ending is_part) ≡ [] =
+            ap (λ (bs : List ℕ). before_dot (bs ++ tail ending is_part)) (ap number_mark one ∙ first_mark) ∙ before_tail ending is_part in
             ap is_device (both.0 ∙ ap (λ (bs : List ℕ). front ++ bs) none ∙ append-nil front ∙ sym both.1) ∙ free
         | inr other ↦
             let more = (decimal number ++ codes ")") ++ tail ending is_part in
-            let some : before_dot (mark number ++ tail ending is_part) ≡ 32 ∷ 40 ∷ before_dot more =
+            let some : before_dot (number_mark number ++ tail ending is_part) ≡ 32 ∷ 40 ∷ before_dot more =
             ap (λ (bs : List ℕ). before_dot (bs ++ tail ending is_part)) (other_mark number other) ∙ before_other 32 (40 ∷ more) refl
             ∙ ap (λ (bs : List ℕ). 32 ∷ bs) (before_other 40 more refl) in
             ap is_device (both.0 ∙ ap (λ (bs : List ℕ). front ++ bs) some) ∙ bracketed_free front (before_dot more)

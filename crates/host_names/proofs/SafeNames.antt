@@ -6,7 +6,7 @@ use Rattle.std.proofs.lemmas.Bool.{cases_eq, and_parts, both_ways, ltb-true, leb
 use Rattle.std.proofs.lemmas.List.{length-append}
 use Rattle.std.proofs.lemmas.List.Elements.{All-nil, All-cons, All-append, All-set, All-map, All-weaker}
 use Rattle.host_names.specs.declared.ending.Ending.{Ending}
-use Rattle.host_names.specs.HostName.{slash, underscore, full_stop, forbidden_characters, is_forbidden, allowed_name, unhidden_name, is_loose, closed_name, filled_name, is_reserved, device_name, stem, ending_text, part_text, tail, mark, numbered_name}
+use Rattle.host_names.specs.HostName.{slash, underscore, full_stop, forbidden_characters, is_forbidden, allowed_name, unhidden_name, is_loose, closed_name, filled_name, is_reserved, device_name, stem, ending_text, part_ending, tail, number_mark, numbered_name}
 use Rattle.host_names.specs.TakenNames.{first_free, next_name}
 use Rattle.host_names.specs.Laws.{AreCounted, StaysInFolder, IsPrinted, EndsWith}
 use Rattle.host_names.proofs.Numbers.{IsDigit, digits, first_mark, other_mark}
@@ -40,10 +40,10 @@ stem_all P text here all =
     either P (is_reserved (device_name fourth)) (underscore ∷ fourth) fourth (All-cons P underscore fourth here fourth_all) fourth_all
 
 -- what holds of digits, brackets and a space holds of marks
-mark_all : (P : ℕ → Type 0) (number : ℕ) → number < 2 ^ 64 → P 32 → P 40 → P 41 → ((byte : ℕ) → IsDigit byte → P byte) → All P (mark number)
+mark_all : (P : ℕ → Type 0) (number : ℕ) → number < 2 ^ 64 → P 32 → P 40 → P 41 → ((byte : ℕ) → IsDigit byte → P byte) → All P (number_mark number)
 mark_all P number small space left right digit =
     elim (cases_eq number 1) [
-      | inl is ↦ subst (λ (bytes : List ℕ). All P bytes) (sym (ap mark is ∙ first_mark)) (All-nil P)
+      | inl is ↦ subst (λ (bytes : List ℕ). All P bytes) (sym (ap number_mark is ∙ first_mark)) (All-nil P)
       | inr other ↦
           subst (λ (bytes : List ℕ). All P bytes) (sym (other_mark number other))
           (All-cons P 32 (40 ∷ (decimal number ++ codes ")")) space
@@ -59,8 +59,8 @@ next_all P taken text ending is_part counted here space left right digit all bac
     let back = tail ending is_part in
     let number = first_free taken (stem text) back in
     let within = first_free_within taken (stem text) back in
-    All-append P (stem text) (mark number ++ back) (stem_all P text here all)
-    (All-append P (mark number) back (mark_all P number (omega (arith, within.1, counted)) space left right digit) back_all)
+    All-append P (stem text) (number_mark number ++ back) (stem_all P text here all)
+    (All-append P (number_mark number) back (mark_all P number (omega (arith, within.1, counted)) space left right digit) back_all)
 
 -- ---- forbidden bytes
 
@@ -81,7 +81,7 @@ abbrev is_allowed : ℕ → Bool
 is_allowed byte = not (is_forbidden byte)
 
 tail_allowed : (ending : Ending) (is_part : Bool) → All IsAllowed (tail ending is_part)
-unfolding tail ending_text part_text is_forbidden forbidden_characters
+unfolding tail ending_text part_ending is_forbidden forbidden_characters
 tail_allowed ending is_part =
     all_from_test IsAllowed is_allowed (λ byte passes. not-true (is_forbidden byte) passes) (tail ending is_part)
     (each_tail (λ bytes. list_all is_allowed bytes) refl refl refl refl refl refl refl refl refl refl refl refl refl refl ending is_part)
@@ -125,7 +125,7 @@ printed_from_test byte passes =
     (leb-true 32 byte both.0, ltb-true byte 127 both.1)
 
 tail_printed : (ending : Ending) (is_part : Bool) → All IsPrinted (tail ending is_part)
-unfolding tail ending_text part_text
+unfolding tail ending_text part_ending
 tail_printed ending is_part =
     all_from_test IsPrinted is_printed printed_from_test (tail ending is_part)
     (each_tail (λ bytes. list_all is_printed bytes) refl refl refl refl refl refl refl refl refl refl refl refl refl refl ending is_part)
@@ -159,7 +159,7 @@ unfolding next_name numbered_name
 name_ends taken text ending is_part =
     let back = tail ending is_part in
     let number = first_free taken (stem text) back in
-    (stem text ++ mark number, sym (append_assoc (stem text) (mark number) back))
+    (stem text ++ number_mark number, sym (append_assoc (stem text) (number_mark number) back))
 
 pub name_stays : (taken : List (List ℕ)) (text : List ℕ) (ending : Ending) (is_part : Bool) → AreCounted taken → StaysInFolder (next_name taken text ending is_part)
 name_stays taken text ending is_part counted =

@@ -7,7 +7,7 @@ use Rattle.std.proofs.lemmas.Bool.{or_left, or_right}
 use Rattle.std.proofs.lemmas.List.Folds.{list_any-append}
 use Rattle.std.proofs.lemmas.Map.Steps.{list_any_congr}
 use Rattle.std.proofs.lemmas.Slice.Eq.{bytes_eq-Decides}
-use Rattle.host_names.specs.Digest.{next_digest, digest_of}
+use Rattle.host_names.specs.Digest.{next_digest, name_digest}
 use Rattle.host_names.specs.HostName.{is_same_name}
 use Rattle.host_names.specs.TakenNames.{is_taken}
 
@@ -34,8 +34,8 @@ same_laws = record {
 }
 
 -- and the same digest
-pub digest_from_same : (one other : List ℕ) → is_same_name one other ≡ true → digest_of one ≡ digest_of other
-unfolding digest_of
+pub digest_from_same : (one other : List ℕ) → is_same_name one other ≡ true → name_digest one ≡ name_digest other
+unfolding name_digest
 digest_from_same one other is = ap (λ (name : List ℕ). fold next_digest 0 name) (lower_from_same one other is)
 
 -- ---- taken names

@@ -10,7 +10,7 @@ use Rattle.std.proofs.lemmas.List.FromFn.{length-range_with_len, get_or-range_wi
 use Rattle.std.proofs.lemmas.Map.Keys.{IsDistinct-cons}
 use Rattle.std.proofs.lemmas.Map.Made.{length-le_from_is_member}
 use Rattle.host_names.specs.HostName.{is_same_name, numbered_name}
-use Rattle.host_names.specs.TakenNames.{is_taken, is_free, first_free}
+use Rattle.host_names.specs.TakenNames.{is_taken, is_name_free, first_free}
 use Rattle.host_names.proofs.SameNames.{same_laws, taken_alike}
 use Rattle.host_names.proofs.Numbers.{same_number}
 
@@ -71,7 +71,7 @@ pub first_free_at : (taken : List (List ℕ)) (front back : List ℕ) (number : 
 unfolding first_free
 first_free_at taken front back number low high free before =
     ap (λ (o : Option ℕ). unwrap_or o (length taken + 1))
-    (sym (is_found (is_free taken front back) 1 (length taken) number low (omega arith) (not_from_false (is_taken taken (numbered_name front back number)) free)
+    (sym (is_found (is_name_free taken front back) 1 (length taken) number low (omega arith) (not_from_false (is_taken taken (numbered_name front back number)) free)
     (λ k from below. not_from_true (is_taken taken (numbered_name front back k)) (before k from below))))
 
 -- the one after those, as many as names are taken, if all of them are taken
@@ -80,7 +80,7 @@ pub first_free_past : (taken : List (List ℕ)) (front back : List ℕ)
 unfolding first_free
 first_free_past taken front back before =
     ap (λ (o : Option ℕ). unwrap_or o (length taken + 1))
-    (sym (none_is_found (is_free taken front back) 1 (length taken) (λ k from below. not_from_true (is_taken taken (numbered_name front back k)) (before k from (omega arith)))))
+    (sym (none_is_found (is_name_free taken front back) 1 (length taken) (λ k from below. not_from_true (is_taken taken (numbered_name front back k)) (before k from (omega arith)))))
 
 -- ---- one of them is free
 
@@ -121,18 +121,18 @@ not_all_taken taken front back small all =
 -- the place of the first free name
 pub first_free_within : (taken : List (List ℕ)) (front back : List ℕ) → (1 ≤ first_free taken front back) × (first_free taken front back ≤ length taken + 1)
 unfolding first_free
-first_free_within taken front back = by_result (find (is_free taken front back) (range_with_len 1 (length taken))) (found_in (is_free taken front back) 1 (length taken))
+first_free_within taken front back = by_result (find (is_name_free taken front back) (range_with_len 1 (length taken))) (found_in (is_name_free taken front back) 1 (length taken))
   where
-    by_result : (o : Option ℕ) → FoundIn (is_free taken front back) 1 (length taken) o → (1 ≤ unwrap_or o (length taken + 1)) × (unwrap_or o (length taken + 1) ≤ length taken + 1)
+    by_result : (o : Option ℕ) → FoundIn (is_name_free taken front back) 1 (length taken) o → (1 ≤ unwrap_or o (length taken + 1)) × (unwrap_or o (length taken + 1) ≤ length taken + 1)
     by_result None found = (omega arith, omega arith)
     by_result (Some n) found = (found.0, omega (arith, found.1))
 
 -- it is free
 pub first_is_free : (taken : List (List ℕ)) (front back : List ℕ) → length taken + 1 < 2 ^ 64 → is_taken taken (numbered_name front back (first_free taken front back)) ≡ false
 unfolding first_free
-first_is_free taken front back small = by_result (find (is_free taken front back) (range_with_len 1 (length taken))) (found_in (is_free taken front back) 1 (length taken))
+first_is_free taken front back small = by_result (find (is_name_free taken front back) (range_with_len 1 (length taken))) (found_in (is_name_free taken front back) 1 (length taken))
   where
-    last : (found : FoundIn (is_free taken front back) 1 (length taken) None) → (t : Bool) → is_taken taken (numbered_name front back (length taken + 1)) ≡ t → t ≡ false
+    last : (found : FoundIn (is_name_free taken front back) 1 (length taken) None) → (t : Bool) → is_taken taken (numbered_name front back (length taken + 1)) ≡ t → t ≡ false
     last found false is = refl
     last found true is =
         absurd (not_all_taken taken front back small
@@ -146,19 +146,19 @@ first_is_free taken front back small = by_result (find (is_free taken front back
         is_taken_from true e = refl
         is_taken_from false e = absurd (cc)
 
-    by_result : (o : Option ℕ) → FoundIn (is_free taken front back) 1 (length taken) o → is_taken taken (numbered_name front back (unwrap_or o (length taken + 1))) ≡ false
+    by_result : (o : Option ℕ) → FoundIn (is_name_free taken front back) 1 (length taken) o → is_taken taken (numbered_name front back (unwrap_or o (length taken + 1))) ≡ false
     by_result None found = last found (is_taken taken (numbered_name front back (length taken + 1))) refl
     by_result (Some n) found = not-true (is_taken taken (numbered_name front back n)) found.2
 
 -- the names before it are taken
 pub before_first_free : (taken : List (List ℕ)) (front back : List ℕ) (k : ℕ) → 1 ≤ k → k < first_free taken front back → is_taken taken (numbered_name front back k) ≡ true
 unfolding first_free
-before_first_free taken front back k low below = by_result (find (is_free taken front back) (range_with_len 1 (length taken))) (found_in (is_free taken front back) 1 (length taken)) below
+before_first_free taken front back k low below = by_result (find (is_name_free taken front back) (range_with_len 1 (length taken))) (found_in (is_name_free taken front back) 1 (length taken)) below
   where
     taken_from : (t : Bool) → not t ≡ false → t ≡ true
     taken_from true e = refl
     taken_from false e = absurd (cc)
 
-    by_result : (o : Option ℕ) → FoundIn (is_free taken front back) 1 (length taken) o → k < unwrap_or o (length taken + 1) → is_taken taken (numbered_name front back k) ≡ true
+    by_result : (o : Option ℕ) → FoundIn (is_name_free taken front back) 1 (length taken) o → k < unwrap_or o (length taken + 1) → is_taken taken (numbered_name front back k) ≡ true
     by_result None found under = taken_from (is_taken taken (numbered_name front back k)) (found k low (omega arith))
     by_result (Some n) found under = taken_from (is_taken taken (numbered_name front back k)) (found.3 k low under)

@@ -10,8 +10,8 @@ use Rattle.std.proofs.lemmas.List.{drop-drop, drop-map, length-map}
 use Rattle.std.proofs.lemmas.Slice.Eq.{bytes_eq-Decides}
 use Rattle.host_names.specs.declared.ending.Ending.{Ending}
 use Rattle.host_names.specs.declared.ending.Ending.TheVariants.{Del, Seq, Prg, Usr, Rel, Deleted, Orphan}
-use Rattle.host_names.specs.HostName.{ending_text, part_text, tail}
-use Rattle.host_names.specs.Records.{EndsAt}
+use Rattle.host_names.specs.HostName.{ending_text, part_ending, tail}
+use Rattle.host_names.specs.Records.{HasEndingAt}
 
 -- a test that each end passes
 pub each_tail : (P : List ℕ → Bool) → P (tail Del false) ≡ true → P (tail Del true) ≡ true → P (tail Seq false) ≡ true → P (tail Seq true) ≡ true
@@ -35,12 +35,12 @@ each_tail P a b c d e f g h i j k l m n Orphan true = n
 
 -- it has four bytes or more
 pub long_tail : (ending : Ending) (is_part : Bool) → 4 ≤ length (tail ending is_part)
-unfolding tail ending_text part_text
+unfolding tail ending_text part_ending
 long_tail ending is_part = leb-true 4 _ (each_tail (λ bytes. nat_le 4 (length bytes)) refl refl refl refl refl refl refl refl refl refl refl refl refl refl ending is_part)
 
 -- it has no capital letters
 pub lower_tail : (ending : Ending) (is_part : Bool) → str_to_ascii_lowercase (tail ending is_part) ≡ tail ending is_part
-unfolding tail ending_text part_text
+unfolding tail ending_text part_ending
 lower_tail Del false = refl
 lower_tail Del true = refl
 lower_tail Seq false = refl
@@ -67,7 +67,7 @@ abbrev pub is_tail : List ℕ → Bool
 is_tail bytes = list_any (bytes_eq bytes) tails
 
 tail_is : (ending : Ending) (is_part : Bool) → is_tail (tail ending is_part) ≡ true
-unfolding tail ending_text part_text
+unfolding tail ending_text part_ending
 tail_is ending is_part = each_tail is_tail refl refl refl refl refl refl refl refl refl refl refl refl refl refl ending is_part
 
 -- what is left of a list without its first byte, without its first two, and so on
@@ -80,7 +80,7 @@ abbrev pub is_lone : List ℕ → Bool
 is_lone bytes = list_all (λ rest. not (is_tail rest)) (rests bytes)
 
 tail_lone : (ending : Ending) (is_part : Bool) → is_lone (tail ending is_part) ≡ true
-unfolding tail ending_text part_text rests
+unfolding tail ending_text part_ending rests
 tail_lone ending is_part = each_tail is_lone refl refl refl refl refl refl refl refl refl refl refl refl refl refl ending is_part
 
 first_holds : (a b : Bool) → (a && b) ≡ true → a ≡ true
@@ -94,7 +94,7 @@ second_holds false false is = is
 
 -- so what is left after some bytes is no end
 rest_is_none : (bytes : List ℕ) (n : ℕ) → is_lone bytes ≡ true → not (is_tail (drop (suc n) bytes)) ≡ true
-unfolding tail ending_text part_text rests
+unfolding tail ending_text part_ending rests
 rest_is_none [] n lone = refl
 rest_is_none (byte ∷ bytes) zero lone = first_holds (not (is_tail bytes)) (is_lone bytes) lone
 rest_is_none (byte ∷ bytes) (suc n) lone = rest_is_none bytes n (second_holds (not (is_tail bytes)) (is_lone bytes) lone)
@@ -124,7 +124,7 @@ not_later name i j one other p q is js before =
 
 -- two names that are the same have their ends in one place
 pub same_ends : (one other : List ℕ) (i j : ℕ) → str_to_ascii_lowercase one ≡ str_to_ascii_lowercase other → i ≤ length one → j ≤ length other
-    → EndsAt one i → EndsAt other j → i ≡ j
+    → HasEndingAt one i → HasEndingAt other j → i ≡ j
 same_ends one other i j same i_within j_within one_ends other_ends =
     let is = lower_end one i one_ends.0 one_ends.1 one_ends.2 in
     let js : drop j (str_to_ascii_lowercase one) ≡ tail other_ends.0 other_ends.1 = ap (drop j) same ∙ lower_end other j other_ends.0 other_ends.1 other_ends.2 in

@@ -7,5 +7,5 @@ abbrev pub next_digest : ℕ → ℕ → ℕ
 next_digest digest byte = (digest * 31 % 2 ^ 32 + byte) % 2 ^ 32
 
 -- the digest of a name
-unfoldable pub digest_of : List ℕ → ℕ
-digest_of name = fold next_digest 0 (str_to_ascii_lowercase name)
+unfoldable pub name_digest : List ℕ → ℕ
+name_digest name = fold next_digest 0 (str_to_ascii_lowercase name)

@@ -7,8 +7,8 @@ use Rattle.host_names.specs.declared.ending.Ending.{Ending}
 use Rattle.host_names.specs.declared.ending.Ending.TheVariants.{Del, Seq, Prg, Usr, Rel, Deleted, Orphan}
 
 -- ` `, `.`, `/` and `_`
-abbrev pub space : ℕ
-space = 32
+abbrev pub trailing_space : ℕ
+trailing_space = 32
 
 abbrev pub full_stop : ℕ
 full_stop = 46
@@ -37,7 +37,7 @@ unhidden_name name = if slice_index name 0 == full_stop then slice_set name 0 un
 
 -- a byte with which no name ends on some host: `.` or a space
 abbrev pub is_loose : ℕ → Bool
-is_loose byte = byte == full_stop || byte == space
+is_loose byte = byte == full_stop || byte == trailing_space
 
 -- a name whose last byte, where it was a `.` or a space, became `_`
 abbrev pub closed_name : List ℕ → List ℕ
@@ -59,7 +59,7 @@ before_dot name = before_first (λ byte. byte == full_stop) name
 unfoldable pub without_last_spaces : List ℕ → List ℕ
 without_last_spaces [] = []
 without_last_spaces (byte ∷ rest) =
-    if byte == space && length (without_last_spaces rest) == 0 then [] else byte ∷ without_last_spaces rest
+    if byte == trailing_space && length (without_last_spaces rest) == 0 then [] else byte ∷ without_last_spaces rest
 
 -- what some host takes for the name of a device where it is one: what comes before the first `.`,
 -- without the spaces at its end
@@ -106,21 +106,21 @@ ending_text Deleted = codes ".deleted"
 ending_text Orphan = codes ".orphan"
 
 -- what follows the ending: `.part` where the file is written in part
-unfoldable pub part_text : Bool → List ℕ
-part_text is_part = if is_part then codes ".part" else []
+unfoldable pub part_ending : Bool → List ℕ
+part_ending is_part = if is_part then codes ".part" else []
 
 -- what the host name of a file ends with
 unfoldable pub tail : Ending → Bool → List ℕ
-tail ending is_part = ending_text ending ++ part_text is_part
+tail ending is_part = ending_text ending ++ part_ending is_part
 
 -- what is before the ending of the name that is tried in this place: of the first one nothing,
 -- then ` (2)`, ` (3)` and so on
-unfoldable pub mark : ℕ → List ℕ
-mark number = if number == 1 then [] else codes " (" ++ (decimal number ++ codes ")")
+unfoldable pub number_mark : ℕ → List ℕ
+number_mark number = if number == 1 then [] else codes " (" ++ (decimal number ++ codes ")")
 
 -- the name that is tried in this place
 unfoldable pub numbered_name : List ℕ → List ℕ → ℕ → List ℕ
-numbered_name front back number = front ++ (mark number ++ back)
+numbered_name front back number = front ++ (number_mark number ++ back)
 
 -- the first one: the name that a file gets if no other file has it
 abbrev pub host_name : List ℕ → Ending → Bool → List ℕ

@@ -3,7 +3,7 @@ use Rattle.std.specs.Prelude.{◌≡◌, ◌≢◌, ℕ, ◌+◌, ◌^◌, ◌<�
 use Rattle.std.specs.List.{IsDistinct}
 use Rattle.host_names.specs.declared.ending.Ending.{Ending}
 use Rattle.host_names.specs.HostName.{slash, is_forbidden, is_reserved, is_same_name, device_name, tail}
-use Rattle.host_names.specs.TakenNames.{Named, is_taken, next_name, with_names}
+use Rattle.host_names.specs.TakenNames.{Named, is_taken, next_name, with_taken_names}
 use Rattle.host_names.specs.ImagePlace.{folders_of, image_name, partial_name}
 
 -- a host can count this many names
@@ -57,7 +57,7 @@ NamesAreFree = (taken : List (List ℕ)) (text : List ℕ) (ending : Ending) (is
 
 -- no two files of an image get the same name
 abbrev pub NoTwoNamesAreTheSame : Type 0
-NoTwoNamesAreTheSame = (files : List Named) → length files < 2 ^ 63 → IsDistinct is_same_name (with_names [] files)
+NoTwoNamesAreTheSame = (files : List Named) → length files < 2 ^ 63 → IsDistinct is_same_name (with_taken_names [] files)
 
 -- the folders of a path lead down
 abbrev pub FoldersLeadDown : Type 0

@@ -9,13 +9,13 @@ abbrev pub is_taken : List (List ℕ) → List ℕ → Bool
 is_taken taken name = list_any (is_same_name name) taken
 
 -- whether the n-th name that is tried is free
-abbrev pub is_free : List (List ℕ) → List ℕ → List ℕ → ℕ → Bool
-is_free taken front back number = not (is_taken taken (numbered_name front back number))
+abbrev pub is_name_free : List (List ℕ) → List ℕ → List ℕ → ℕ → Bool
+is_name_free taken front back number = not (is_taken taken (numbered_name front back number))
 
 -- the number of the first free name, from 1: the one after as many as are taken, if all of these are
 -- taken
 unfoldable pub first_free : List (List ℕ) → List ℕ → List ℕ → ℕ
-first_free taken front back = unwrap_or (find (is_free taken front back) (range_with_len 1 (length taken))) (length taken + 1)
+first_free taken front back = unwrap_or (find (is_name_free taken front back) (range_with_len 1 (length taken))) (length taken + 1)
 
 -- the name that a file gets if these are taken
 unfoldable pub next_name : List (List ℕ) → List ℕ → Ending → Bool → List ℕ
@@ -29,6 +29,6 @@ pub record Named : Type 0 where
   pub is_part : Bool
 
 -- the names that are taken once these files have theirs
-unfoldable pub with_names : List (List ℕ) → List Named → List (List ℕ)
-with_names taken [] = taken
-with_names taken (file ∷ files) = with_names (taken ++ next_name taken file.text file.ending file.is_part ∷ []) files
+unfoldable pub with_taken_names : List (List ℕ) → List Named → List (List ℕ)
+with_taken_names taken [] = taken
+with_taken_names taken (file ∷ files) = with_taken_names (taken ++ next_name taken file.text file.ending file.is_part ∷ []) files

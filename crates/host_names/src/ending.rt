@@ -37,7 +37,7 @@ impl Ending {
 }
 
 /// Appends the ending, and `.part` if the file is written in part.
-#[tactic(auto, unfolding(crate::specs::HostName::tail, crate::specs::HostName::part_text))]
+#[tactic(auto, unfolding(crate::specs::HostName::tail, crate::specs::HostName::part_ending))]
 pub(crate) fn push_tail(name: &mut Vec<u8>, ending: Ending, is_part: bool) -> Result<(), AllocError>
     ensures { OnOk result (name.new.items ≡ name.old.items ++ tail ending is_part) }
 {

@@ -3,8 +3,8 @@ ghost use Rattle.std.specs.Prelude.{◌≡◌, ◌<◌, ◌≤◌, ℕ, [], ◌�
 ghost use Rattle.std.specs.List.{HoldsAt};
 ghost use Rattle.host_names.specs.HostName.{is_same_name, numbered_name, tail};
 ghost use Rattle.host_names.specs.TakenNames.{is_taken, first_free, next_name};
-ghost use Rattle.host_names.specs.Records.{names_of, EndsAt, AreTried, AreRecords};
-ghost use Rattle.host_names.specs.Digest.{digest_of};
+ghost use Rattle.host_names.specs.Records.{names_of, HasEndingAt, AreTried, AreNameRecords};
+ghost use Rattle.host_names.specs.Digest.{name_digest};
 
 use crate::ending::{Ending, push_tail};
 use crate::stem::put_stem;
@@ -34,13 +34,13 @@ pub struct TakenNames {
 
 impl Model for TakenNames {
     ghost use Rattle.std.specs.Prelude.{ℕ, List};
-    ghost use Rattle.host_names.specs.Records.{names_of, EndsAt, AreTried, AreRecords};
+    ghost use Rattle.host_names.specs.Records.{names_of, HasEndingAt, AreTried, AreNameRecords};
 
     ghost Value = { List (List ℕ) };
 
     ghost view = { λ taken. names_of taken.names.items };
 
-    ghost invariant = { λ taken. AreRecords taken.names.items };
+    ghost invariant = { λ taken. AreNameRecords taken.names.items };
 }
 
 impl TakenNames {
@@ -96,7 +96,7 @@ impl TakenNames {
 
 /// A number that is the same for all names that count as the same.
 fn digest(name: &[u8]) -> u32
-    ensures { result ≡ digest_of name.now }
+    ensures { result ≡ name_digest name.now }
 {
     let mut digest: u32 = 0;
     for byte in name {
@@ -109,7 +109,7 @@ fn digest(name: &[u8]) -> u32
 
 /// The place of the first name that is the same as this one.
 fn find(names: &[Taken], name: &[u8]) -> Option<usize>
-    requires { AreRecords names.now }
+    requires { AreNameRecords names.now }
     ensures within { IfSome result (λ place. place < length names.now) }
     ensures found { MatchOption result (is_taken (names_of names.now) name.now ≡ false)
         (λ place. HoldsAt (λ taken. is_same_name taken.name.items name.now ≡ true) names.now place) }
@@ -125,7 +125,7 @@ fn find(names: &[Taken], name: &[u8]) -> Option<usize>
 
 /// Whether a name is the same as one of some.
 fn is_taken(names: &[Taken], name: &[u8]) -> bool
-    requires { AreRecords names.now }
+    requires { AreNameRecords names.now }
     ensures { result ≡ is_taken (names_of names.now) name.now }
 {
     find(names, name).is_some()
@@ -133,8 +133,8 @@ fn is_taken(names: &[Taken], name: &[u8]) -> bool
 
 /// Whether this record is that of the same name as this one, which has this digest.
 fn has_name(taken: &Taken, digest: u32, name: &[u8]) -> bool
-    requires kept { taken.now.digest ≡ digest_of taken.now.name.items }
-    requires asked { digest ≡ digest_of name.now }
+    requires kept { taken.now.digest ≡ name_digest taken.now.name.items }
+    requires asked { digest ≡ name_digest name.now }
     ensures { result ≡ is_same_name taken.now.name.items name.now }
 {
     taken.digest == digest && taken.name.eq_ignore_ascii_case(name)
@@ -159,11 +159,11 @@ fn keep(
     name: &[u8],
     stem_len: usize,
 ) -> Result<(), AllocError>
-    requires records { AreRecords names.old.items }
+    requires records { AreNameRecords names.old.items }
     requires within { stem_len ≤ length name.now }
-    requires ends { EndsAt name.now stem_len }
+    requires ends { HasEndingAt name.now stem_len }
     ensures names { OnOk result (names_of names.new.items ≡ names_of names.old.items ++ name.now ∷ []) }
-    ensures records { OnOk result (AreRecords names.new.items) }
+    ensures records { OnOk result (AreNameRecords names.new.items) }
     ensures before { OnOk result (take (length names.old.items) names.new.items ≡ names.old.items) }
     ensures unchanged { OnErr result (names.new.items ≡ names.old.items) }
 {
@@ -180,11 +180,11 @@ fn keep(
 /// Notes that the numbered names made of the name at this place are taken below a number.
 fn pass(names: &mut [Taken], place: usize, next: usize)
     requires within { place < length names.old }
-    requires records { AreRecords names.old }
+    requires records { AreNameRecords names.old }
     requires from { 1 ≤ next }
     requires tried { HoldsAt (λ taken. AreTried (names_of names.old) taken next) names.old place }
     ensures names { names_of names.new ≡ names_of names.old }
-    ensures records { AreRecords names.new }
+    ensures records { AreNameRecords names.new }
 {
     names[place].next = next;
 }
@@ -198,7 +198,7 @@ fn put_free(
     ending: Ending,
     is_part: bool,
 ) -> Result<usize, AllocError>
-    requires records { AreRecords names.now }
+    requires records { AreNameRecords names.now }
     requires within { stem_len ≤ length name.old.items }
     requires from { 1 ≤ first }
     requires tried { (number : ℕ) → 1 ≤ number → number < first
@@ -218,7 +218,7 @@ fn put_free(
 }
 
 /// Replaces a name by the numbered one that begins with the same bytes.
-#[tactic(auto, unfolding(crate::specs::HostName::numbered_name, crate::specs::HostName::mark))]
+#[tactic(auto, unfolding(crate::specs::HostName::numbered_name, crate::specs::HostName::number_mark))]
 fn put_numbered(
     name: &mut Vec<u8>,
     stem_len: usize,

@@ -9,7 +9,7 @@ use Rattle.std.specs.Map.{lookup, update}
 use Rattle.std.specs.Str.{bytes_eq}
 use Rattle.std.proofs.lemmas.Map.Text.{is_eq-slice_cmp}
 use Rattle.std.proofs.lemmas.Slice.Eq.{bytes_eq-Decides}
-use Rattle.host_storage.specs.MemoryHost.{MemoryFiles, files_of}
+use Rattle.host_storage.specs.MemoryHost.{MemoryFiles, files_of_entries}
 
 -- a name has the same bytes among the pairs as among the entries
 find-entries : {A B : Type 0} (entries : List (String A × Vec ℕ B)) (name : List ℕ) → find (slice_cmp nat_cmp) name (map (λ entry. (string_bytes entry.0, entry.1.items)) entries) ≡ option_map (λ value. value.items) (lookup (is_at (λ key. slice_cmp nat_cmp name (string_bytes key))) entries)
@@ -21,7 +21,7 @@ find-entries (entry ∷ entries) name =
     ]
 
 -- a name has the bytes that the map has for its text
-get-files_of : {A B : Type 0} (m : BTreeMap (String A) (Vec ℕ B)) (name : List ℕ) → get (files_of m.entries) name ≡ option_map (λ value. value.items) (get_by_text m name)
+get-files_of : {A B : Type 0} (m : BTreeMap (String A) (Vec ℕ B)) (name : List ℕ) → get (files_of_entries m.entries) name ≡ option_map (λ value. value.items) (get_by_text m name)
 get-files_of m name = get-from_entries nat_list_cmp_total _ name ∙ find-entries m.entries name
 
 -- the two tests of a name against another, either way round, are one
@@ -34,24 +34,24 @@ read_updated true value old = refl
 read_updated false value old = refl
 
 -- a map that has a new value under one text has the old files with that one file set
-files_of-update : {A B : Type 0} (old new : BTreeMap (String A) (Vec ℕ B)) (name : List ℕ) (value : Vec ℕ B) → ((other : List ℕ) → get_by_text new other ≡ update bytes_eq (get_by_text old) name (Some value) other) → files_of new.entries ≡ insert (files_of old.entries) name value.items
+files_of-update : {A B : Type 0} (old new : BTreeMap (String A) (Vec ℕ B)) (name : List ℕ) (value : Vec ℕ B) → ((other : List ℕ) → get_by_text new other ≡ update bytes_eq (get_by_text old) name (Some value) other) → files_of_entries new.entries ≡ insert (files_of_entries old.entries) name value.items
 files_of-update old new name value updates =
     same_map nat_list_cmp_total (slice_cmp-IsAntisymmetric nat_cmp-IsAntisymmetric) _ _ (λ other.
     get-files_of new other
     ∙ ap (option_map (λ v. v.items)) (updates other)
     ∙ read_updated (bytes_eq name other) value (get_by_text old other)
     ∙ ap (λ rest. cond (bytes_eq name other) (Some value.items) rest) (sym (get-files_of old other))
-    ∙ ap (λ same. cond same (Some value.items) (get (files_of old.entries) other)) (same_name name other)
-    ∙ sym (get-insert nat_list_cmp_total (files_of old.entries) name value.items other))
+    ∙ ap (λ same. cond same (Some value.items) (get (files_of_entries old.entries) other)) (same_name name other)
+    ∙ sym (get-insert nat_list_cmp_total (files_of_entries old.entries) name value.items other))
 
 -- what a look-up found among the entries is the content of the name
-pub found_file : {A B : Type 0} (m : BTreeMap (String A) (Vec ℕ B)) (name : List ℕ) (found : Option (Vec ℕ B)) (host : MemoryFiles) → found ≡ get_by_text m name → files_of m.entries ≡ host.files → option_map (λ value. value.items) found ≡ get host.files name
+pub found_file : {A B : Type 0} (m : BTreeMap (String A) (Vec ℕ B)) (name : List ℕ) (found : Option (Vec ℕ B)) (host : MemoryFiles) → found ≡ get_by_text m name → files_of_entries m.entries ≡ host.files → option_map (λ value. value.items) found ≡ get host.files name
 found_file m name found host is files = ap (option_map (λ value. value.items)) is ∙ sym (get-files_of m name) ∙ ap (λ all. get all name) files
 
 -- the files after an insertion, if key and value have the name and the bytes
-pub set_file : {A B : Type 0} (old new : BTreeMap (String A) (Vec ℕ B)) (key name : List ℕ) (value : Vec ℕ B) (bytes : List ℕ) → ((other : List ℕ) → get_by_text new other ≡ update bytes_eq (get_by_text old) key (Some value) other) → key ≡ name → value.items ≡ bytes → files_of new.entries ≡ insert (files_of old.entries) name bytes
+pub set_file : {A B : Type 0} (old new : BTreeMap (String A) (Vec ℕ B)) (key name : List ℕ) (value : Vec ℕ B) (bytes : List ℕ) → ((other : List ℕ) → get_by_text new other ≡ update bytes_eq (get_by_text old) key (Some value) other) → key ≡ name → value.items ≡ bytes → files_of_entries new.entries ≡ insert (files_of_entries old.entries) name bytes
 set_file old new key name value bytes updates is_name is_bytes =
-    files_of-update old new key value updates ∙ ap (λ k. insert (files_of old.entries) k value.items) is_name ∙ ap (insert (files_of old.entries) name) is_bytes
+    files_of-update old new key value updates ∙ ap (λ k. insert (files_of_entries old.entries) k value.items) is_name ∙ ap (insert (files_of_entries old.entries) name) is_bytes
 
 -- the test of a map's key against a name
 abbrev pub is_named : {A : Type 0} → List ℕ → String A → Bool
@@ -93,14 +93,14 @@ is_some-map f None = refl
 is_some-map f (Some value) = refl
 
 -- there is a file of a name exactly if it is found among the entries
-contains-files_of : {A B : Type 0} (m : BTreeMap (String A) (Vec ℕ B)) (name : List ℕ) → contains_key (files_of m.entries) name ≡ is_some (lookup (is_named name) m.entries)
+contains-files_of : {A B : Type 0} (m : BTreeMap (String A) (Vec ℕ B)) (name : List ℕ) → contains_key (files_of_entries m.entries) name ≡ is_some (lookup (is_named name) m.entries)
 contains-files_of m name = ap is_some (get-files_of m name) ∙ is_some-map (λ value. value.items) (get_by_text m name)
 
 pub has_file : {A B : Type 0} (m : BTreeMap (String A) (Vec ℕ B)) (name : List ℕ) (host : MemoryFiles) (before after : List (String A × Vec ℕ B)) (entry : String A × Vec ℕ B)
-    → m.entries ≡ before ++ entry ∷ after → files_of m.entries ≡ host.files → string_bytes entry.0 ≡ name → true ≡ contains_key host.files name
+    → m.entries ≡ before ++ entry ∷ after → files_of_entries m.entries ≡ host.files → string_bytes entry.0 ≡ name → true ≡ contains_key host.files name
 has_file m name host before after entry all files is =
     sym (ap (λ all. is_some (lookup (is_named name) all)) all ∙ found_among (is_named name) before after entry (named name entry.0 is))
     ∙ sym (contains-files_of m name) ∙ ap (λ all. contains_key all name) files
 
-pub lacks_file : {A B : Type 0} (m : BTreeMap (String A) (Vec ℕ B)) (name : List ℕ) (host : MemoryFiles) → lookup (is_named name) m.entries ≡ None → files_of m.entries ≡ host.files → false ≡ contains_key host.files name
+pub lacks_file : {A B : Type 0} (m : BTreeMap (String A) (Vec ℕ B)) (name : List ℕ) (host : MemoryFiles) → lookup (is_named name) m.entries ≡ None → files_of_entries m.entries ≡ host.files → false ≡ contains_key host.files name
 lacks_file m name host none files = sym (ap is_some none) ∙ sym (contains-files_of m name) ∙ ap (λ all. contains_key all name) files

@@ -20,7 +20,7 @@ use Rattle.std.proofs.lemmas.List.{map-append, nil_from_length}
 use Rattle.std.proofs.lemmas.List.Sums.{fold-append}
 use Rattle.host_storage.specs.Files.{Files}
 use Rattle.host_storage.specs.Folders.{folder_name, moved_name, with_moved}
-use Rattle.host_storage.specs.MemoryHost.{files_of}
+use Rattle.host_storage.specs.MemoryHost.{files_of_entries}
 use Rattle.host_storage.proofs.FilesOfEntries.{set_file}
 
 -- an entry of a map as a name and its bytes
@@ -64,16 +64,16 @@ put-first key bytes (entry ∷ more) below =
     ap (λ order. by_order order ((string_bytes key, bytes) ∷ map as_file (entry ∷ more)) ((string_bytes entry.0, bytes) ∷ map as_file more) (as_file entry ∷ put (slice_cmp nat_cmp) (string_bytes key) bytes (map as_file more))) below.0
 
 -- the files of entries whose keys rise are these entries
-entries-files_of : {A B : Type 0} (all : List (String A × Vec ℕ B)) → IsStrictlySortedBy string_cmp (map (λ entry. entry.0) all) → entries (files_of all) ≡ map as_file all
+entries-files_of : {A B : Type 0} (all : List (String A × Vec ℕ B)) → IsStrictlySortedBy string_cmp (map (λ entry. entry.0) all) → entries (files_of_entries all) ≡ map as_file all
 unfolding IsStrictlySortedBy
 entries-files_of [] rises = nil_from_length (entries empty) (sym (len-entries empty) ∙ len-empty (slice_cmp nat_cmp) (List ℕ))
 entries-files_of (entry ∷ more) rises =
-    entries-insert nat_list_cmp_total (files_of more) (string_bytes entry.0) entry.1.items
+    entries-insert nat_list_cmp_total (files_of_entries more) (string_bytes entry.0) entry.1.items
     ∙ ap (put (slice_cmp nat_cmp) (string_bytes entry.0) entry.1.items) (entries-files_of more rises.1)
     ∙ put-first entry.0 entry.1.items more rises.0
 
 -- all entries have come
-pub moved_all : {A B : Type 0} (m : BTreeMap (String A) (Vec ℕ B)) (from to : List ℕ) → IsOrdered string_cmp m → fold (moved_in from to) empty (map as_file m.entries) ≡ with_moved from to (files_of m.entries)
+pub moved_all : {A B : Type 0} (m : BTreeMap (String A) (Vec ℕ B)) (from to : List ℕ) → IsOrdered string_cmp m → fold (moved_in from to) empty (map as_file m.entries) ≡ with_moved from to (files_of_entries m.entries)
 moved_all m from to ordered = ap (fold (moved_in from to) empty) (sym (entries-files_of m.entries ordered))
 
 -- one more entry has come
@@ -88,9 +88,9 @@ moved_name-same from to name from' to' name' same_from same_to same_name =
 -- one more entry of a map has its new name
 module _ {A B : Type 0} (from to : List ℕ) (old new : BTreeMap (String A) (Vec ℕ B)) (yielded : List (Bor (String A) × Bor (Vec ℕ B))) (item : Bor (String A) × Bor (Vec ℕ B)) where
   pub moved_step : (key : List ℕ) (value : Vec ℕ B) → ((other : List ℕ) → get_by_text new other ≡ update bytes_eq (get_by_text old) key (Some value) other) → key ≡ moved_name (folder_name from) (folder_name to) (string_bytes item.0.now) → value.items ≡ item.1.now.items
-      → files_of old.entries ≡ fold (moved_in from to) empty (map as_file (map deref_pair yielded))
-      → files_of new.entries ≡ fold (moved_in from to) empty (map as_file (map deref_pair (yielded ++ item ∷ [])))
+      → files_of_entries old.entries ≡ fold (moved_in from to) empty (map as_file (map deref_pair yielded))
+      → files_of_entries new.entries ≡ fold (moved_in from to) empty (map as_file (map deref_pair (yielded ++ item ∷ [])))
   moved_step key value updates is_name is_bytes before =
       set_file old new key (moved_name (folder_name from) (folder_name to) (string_bytes item.0.now)) value item.1.now.items updates is_name is_bytes
-      ∙ moved_one from to (map as_file (map deref_pair yielded)) (as_file (deref_pair item)) (files_of old.entries) before
+      ∙ moved_one from to (map as_file (map deref_pair yielded)) (as_file (deref_pair item)) (files_of_entries old.entries) before
       ∙ sym (ap (fold (moved_in from to) empty) (ap (map as_file) (map-append deref_pair yielded (item ∷ [])) ∙ map-append as_file (map deref_pair yielded) (deref_pair item ∷ [])))

@@ -24,8 +24,8 @@ abbrev pub with_folder : List ℕ → Files → Files
 with_folder path files = insert files (folder_name path) []
 
 -- the files with one more file
-abbrev pub with_file : List ℕ → List ℕ → Files → Files
-with_file path bytes files = insert files path bytes
+abbrev pub with_stored_file : List ℕ → List ℕ → Files → Files
+with_stored_file path bytes files = insert files path bytes
 
 -- the files with bytes appended to one of them
 abbrev pub with_more : List ℕ → List ℕ → Files → Files

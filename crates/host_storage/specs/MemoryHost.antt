@@ -26,8 +26,8 @@ memory_files_code =
     (λ host. refl)
 
 -- the files of the entries of a map from texts to bytes
-abbrev pub files_of : {A B : Type 0} → List (String A × Vec ℕ B) → Files
-files_of entries = from_entries (map (λ entry. (string_bytes entry.0, entry.1.items)) entries)
+abbrev pub files_of_entries : {A B : Type 0} → List (String A × Vec ℕ B) → Files
+files_of_entries entries = from_entries (map (λ entry. (string_bytes entry.0, entry.1.items)) entries)
 
 -- the effect of a fetch or a store on a host beside the files: the countdown falls, and if it was 1
 -- the call fails, and the count of failures rises, up to the greatest number of 64 bits
@@ -43,14 +43,14 @@ countdown_after zero countdown = countdown
 countdown_after (suc calls) countdown = countdown_after calls (countdown - 1)
 
 -- why the content of a name cannot be fetched: there is no file, or it is longer than the limit
-abbrev pub file_refusal : Option (List ℕ) → ℕ → Option HostFault
-file_refusal None limit = Some Missing
-file_refusal (Some bytes) limit = if nat_lt limit (length bytes) then Some TooLong else None
+abbrev pub refusal_of_fetch : Option (List ℕ) → ℕ → Option HostFault
+refusal_of_fetch None limit = Some Missing
+refusal_of_fetch (Some bytes) limit = if nat_lt limit (length bytes) then Some TooLong else None
 
 -- why a fetch fails, unless memory is out: it is the call that was to fail, or else because of the
 -- file itself
 abbrev pub fetch_refusal : MemoryFiles → List ℕ → ℕ → Option HostFault
-fetch_refusal host name limit = if host.countdown == 1 then Some Device else file_refusal (get host.files name) limit
+fetch_refusal host name limit = if host.countdown == 1 then Some Device else refusal_of_fetch (get host.files name) limit
 
 -- why opening a name fails, unless memory is out: it is the call that was to fail, or there is no
 -- file

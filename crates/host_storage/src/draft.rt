@@ -1,7 +1,7 @@
 //! Replacing a file by a new one beside it, once that is whole and on the disk.
 
 ghost use Rattle.std.specs.Prelude.{◌≡◌, Option, option_map, IfErr, IfSome, OnOk, OnErr};
-ghost use Rattle.host_storage.specs.Replacement.{Place, file_alone, filled_place, synced_place, published_place, discarded_place, content_of, IsReady};
+ghost use Rattle.host_storage.specs.Replacement.{ReplacedFile, file_alone, filled_place, synced_place, published_place, discarded_place, exposed_content, IsReady};
 
 use crate::host::HostFault;
 
@@ -11,25 +11,25 @@ use crate::host::HostFault;
 /// as one over a disk.
 pub trait Draft {
     // The file and what is beside it, if the draft exposes them.
-    ghost place: { Self → Option Place };
+    ghost place: { Self → Option ReplacedFile };
 
     /// Writes these bytes, the whole content of the new file.
     fn fill(&mut self, bytes: &[u8]) -> Result<(), HostFault>
         ensures filled { OnOk result (place self.new ≡ option_map (filled_place bytes.now) (place self.old)) }
-        ensures kept { OnErr result (content_of (place self.new) ≡ content_of (place self.old)) }
+        ensures kept { OnErr result (exposed_content (place self.new) ≡ exposed_content (place self.old)) }
         ensures refused { IfErr result (λ fault. fault ≡ HostFault.Device) };
 
     /// Waits until the disk has what was written.
     fn sync(&mut self) -> Result<(), HostFault>
         ensures synced { OnOk result (place self.new ≡ option_map synced_place (place self.old)) }
-        ensures kept { OnErr result (content_of (place self.new) ≡ content_of (place self.old)) }
+        ensures kept { OnErr result (exposed_content (place self.new) ≡ exposed_content (place self.old)) }
         ensures refused { IfErr result (λ fault. fault ≡ HostFault.Device) };
 
     /// Puts the new file in place of the old one, in one step.
     fn publish(&mut self) -> Result<(), HostFault>
         requires { IfSome (place self.old) IsReady }
         ensures published { OnOk result (place self.new ≡ option_map published_place (place self.old)) }
-        ensures kept { OnErr result (content_of (place self.new) ≡ content_of (place self.old)) }
+        ensures kept { OnErr result (exposed_content (place self.new) ≡ exposed_content (place self.old)) }
         ensures refused { IfErr result (λ fault. fault ≡ HostFault.Device) };
 
     /// Removes the new file.
@@ -55,7 +55,7 @@ pub fn replace_by<D: Draft>(draft: &mut D, bytes: &[u8]) -> Result<(), HostFault
 /// Writes the new file, waits for the disk, and only then puts it in place of the old one.
 fn write_and_publish<D: Draft>(draft: &mut D, bytes: &[u8]) -> Result<(), HostFault>
     ensures replaced { OnOk result (D.place draft.new ≡ option_map (λ place. file_alone bytes.now) (D.place draft.old)) }
-    ensures kept { OnErr result (content_of (D.place draft.new) ≡ content_of (D.place draft.old)) }
+    ensures kept { OnErr result (exposed_content (D.place draft.new) ≡ exposed_content (D.place draft.old)) }
     ensures refused { IfErr result (λ fault. fault ≡ HostFault.Device) }
 {
     draft.fill(bytes)?;

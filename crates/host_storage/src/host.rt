@@ -3,7 +3,7 @@
 ghost use Rattle.std.specs.Prelude.{◌≡◌, true, IfSome, OnOk};
 ghost use Rattle.std.specs.FinMap.{contains_key};
 ghost use Rattle.host_storage.specs.Files.{HostState};
-ghost use Rattle.host_storage.specs.Folders.{folder_name, with_folder, with_file, with_moved, Looks, Makes, Extends, CountsMaking};
+ghost use Rattle.host_storage.specs.Folders.{folder_name, with_folder, with_stored_file, with_moved, Looks, Makes, Extends, CountsMaking};
 ghost use Rattle.host_storage.specs.Obstacles.{LooksFor, LooksToWrite};
 ghost use Rattle.host_storage.specs.Host.{fault_number, fetched_bytes, filled_bytes, opened_bytes, Fetches, Opens, Stores, CountsDevice, one_more_failure};
 
@@ -157,7 +157,7 @@ pub trait Host {
     /// Makes a file of these bytes. Errors come as from `make_folder`. If writing fails, the file
     /// is removed again, as far as the system allows it.
     fn make_file(&mut self, path: &str, bytes: &[u8]) -> Result<(), FolderFault>
-        ensures made { Makes (with_file path.now bytes.now) (state self.old).files path.now result (state self.new).files }
+        ensures made { Makes (with_stored_file path.now bytes.now) (state self.old).files path.now result (state self.new).files }
         ensures counted { CountsMaking (state self.old).failures (state self.new).failures result };
 
     /// Makes a file of these bytes as `make_file` does, and waits for the disk. If the file system
@@ -169,7 +169,7 @@ pub trait Host {
         path: &str,
         bytes: &[u8],
     ) -> Result<(), FolderFault>
-        ensures made { Makes (with_file path.now bytes.now) (state self.old).files path.now result (state self.new).files }
+        ensures made { Makes (with_stored_file path.now bytes.now) (state self.old).files path.now result (state self.new).files }
         ensures counted { CountsMaking (state self.old).failures (state self.new).failures result };
 
     /// Appends these bytes to an existing file. The error is `Device`, for example because there is

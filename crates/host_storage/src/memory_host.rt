@@ -2,10 +2,10 @@
 
 ghost use Rattle.std.specs.Prelude.{◌≡◌, ℕ, ◌+◌, ◌-◌, ◌↔◌, ◌++◌, [], None, Some, Ok, Err, MatchOption, true, OnOk, OnErr, IfOk, IfErr, IfSome, IsTrue, option_copied, unwrap_or, string_bytes};
 ghost use Rattle.std.specs.FinMap.{contains_key, empty, get, insert};
-ghost use Rattle.host_storage.specs.Folders.{folder_name, is_at, moved_name, with_file, with_folder, with_more, with_moved, Looks, Makes, Extends, CountsMaking};
+ghost use Rattle.host_storage.specs.Folders.{folder_name, is_at, moved_name, with_stored_file, with_folder, with_more, with_moved, Looks, Makes, Extends, CountsMaking};
 ghost use Rattle.host_storage.specs.Host.{fetched_bytes, filled_bytes, opened_bytes, Fetches, Opens, Stores, CountsDevice, answered_fault, one_more_failure};
 ghost use Rattle.host_storage.specs.Obstacles.{LooksFor, LooksToWrite, obstacle_at};
-ghost use Rattle.host_storage.specs.MemoryHost.{after_call, countdown_after, extending_refusal, fetch_refusal, files_of, making_refusal, open_refusal, store_refusal};
+ghost use Rattle.host_storage.specs.MemoryHost.{after_call, countdown_after, extending_refusal, fetch_refusal, files_of_entries, making_refusal, open_refusal, store_refusal};
 
 use crate::host::{FolderFault, Host, HostFault, Obstacle, WriteObstacle};
 use std::alloc::{AllocError, Global};
@@ -23,13 +23,13 @@ pub struct MemoryHost {
 }
 
 impl Model for MemoryHost {
-    ghost use Rattle.host_storage.specs.MemoryHost.{MemoryFiles, memory_files_code, files_of};
+    ghost use Rattle.host_storage.specs.MemoryHost.{MemoryFiles, memory_files_code, files_of_entries};
 
     ghost Value = { MemoryFiles };
 
     ghost coded = { memory_files_code };
 
-    ghost view = { λ host. record { files = files_of host.entries.entries; countdown = host.countdown; failures = host.failures } };
+    ghost view = { λ host. record { files = files_of_entries host.entries.entries; countdown = host.countdown; failures = host.failures } };
 }
 
 impl MemoryHost {
@@ -109,7 +109,7 @@ impl MemoryHost {
     /// Stores a file. If memory is out, the error is the device's, as for a full disk.
     fn put_or_refuse(&mut self, name: &str, bytes: &[u8]) -> Result<(), FolderFault>
         ensures countdown { self.new.countdown ≡ self.old.countdown }
-        ensures accepted { OnOk result (self.new.files ≡ with_file name.now bytes.now self.old.files) }
+        ensures accepted { OnOk result (self.new.files ≡ with_stored_file name.now bytes.now self.old.files) }
         ensures refused { OnErr result (self.new.files ≡ self.old.files) }
         ensures fault { IfErr result (λ fault. fault ≡ FolderFault.Device) }
         ensures counted { CountsMaking self.old.failures self.new.failures result }
@@ -154,7 +154,7 @@ impl MemoryHost {
 
     /// The entries after a folder gets another path.
     fn moved(&self, from: &str, to: &str) -> Result<BTreeMap<String, Vec<u8>>, AllocError>
-        ensures { IfOk result (λ entries. files_of entries.entries ≡ with_moved from.now to.now self.now.files) }
+        ensures { IfOk result (λ entries. files_of_entries entries.entries ≡ with_moved from.now to.now self.now.files) }
     {
         let old = folder_name(self.alloc, from)?;
         let new = folder_name(self.alloc, to)?;
@@ -318,7 +318,7 @@ impl Host for MemoryHost {
         ensures due { self.old.countdown ≡ 1 → result ≡ Err FolderFault.Device }
         ensures exists { making_refusal self.old path.now ≡ Some FolderFault.Exists → result ≡ Err FolderFault.Exists }
         ensures countdown { self.new.countdown ≡ self.old.countdown - 1 }
-        ensures made { Makes (with_file path.now bytes.now) (Some self.old.files) path.now result (Some self.new.files) }
+        ensures made { Makes (with_stored_file path.now bytes.now) (Some self.old.files) path.now result (Some self.new.files) }
         ensures counted { CountsMaking self.old.failures self.new.failures result }
     {
         self.begin_making(path)?;
@@ -334,7 +334,7 @@ impl Host for MemoryHost {
         ensures due { self.old.countdown ≡ 1 → result ≡ Err FolderFault.Device }
         ensures exists { making_refusal self.old path.now ≡ Some FolderFault.Exists → result ≡ Err FolderFault.Exists }
         ensures countdown { self.new.countdown ≡ self.old.countdown - 1 }
-        ensures made { Makes (with_file path.now bytes.now) (Some self.old.files) path.now result (Some self.new.files) }
+        ensures made { Makes (with_stored_file path.now bytes.now) (Some self.old.files) path.now result (Some self.new.files) }
         ensures counted { CountsMaking self.old.failures self.new.failures result }
     {
         self.make_file(path, bytes)

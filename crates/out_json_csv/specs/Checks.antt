@@ -17,9 +17,9 @@ use Rattle.d64_survey.specs.Inspection.{entry_count, whole_count, is_sound, is_a
 use Rattle.out_json_csv.specs.Values.{Field, object_of, array_of, numeral}
 use Rattle.out_json_csv.specs.Names.{name_value}
 use Rattle.out_json_csv.specs.Findings.{fault_object, read_error_object}
-use Rattle.out_json_csv.specs.Doubts.{doubt_value, doubts_text}
+use Rattle.out_json_csv.specs.Doubts.{doubt_value, doubt_names_text}
 use Rattle.out_json_csv.specs.Unanswered.{image_member}
-use Rattle.out_json_csv.specs.Rows.{truth_text, host_field, row_of}
+use Rattle.out_json_csv.specs.Rows.{truth_text, host_field, csv_row_of}
 
 -- the file, the number of tracks, and whether there are read codes
 abbrev pub dump_members : DumpView → Bytes → List Field
@@ -94,4 +94,4 @@ check_fields dump name = dump_fields dump name ++ (label_fields dump.image ++ (c
 
 -- the row of a dump, with a digest in hexadecimal digits if it is asked for; its error is empty
 unfoldable pub check_row : DumpView → Bytes → Option Bytes → List ℕ
-check_row dump name digest = row_of (check_fields dump name) (option_map encode_lower digest) (doubts_text (doubts dump.image)) []
+check_row dump name digest = csv_row_of (check_fields dump name) (option_map encode_lower digest) (doubt_names_text (doubts dump.image)) []

@@ -21,6 +21,6 @@ abbrev pub next_word : Doubt → List ℕ
 next_word doubt = codes " " ++ doubt_word doubt
 
 -- the names of doubts, with a space between them
-unfoldable pub doubts_text : List Doubt → List ℕ
-doubts_text [] = []
-doubts_text (doubt ∷ doubts) = doubt_word doubt ++ flat_map next_word doubts
+unfoldable pub doubt_names_text : List Doubt → List ℕ
+doubt_names_text [] = []
+doubt_names_text (doubt ∷ doubts) = doubt_word doubt ++ flat_map next_word doubts

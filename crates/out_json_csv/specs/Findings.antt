@@ -13,13 +13,13 @@ use Rattle.d64_survey.specs.declared.read_error.ReadError.{ReadError}
 use Rattle.d64_survey.specs.declared.way_end.WayEnd.{WayEnd}
 use Rattle.d64_survey.specs.declared.way_end.WayEnd.TheVariants.{End, Off, Loop}
 use Rattle.out_json_csv.specs.Values.{Field, object_of, numeral, numeral_or_null}
-use Rattle.out_json_csv.specs.Pairs.{pair_text, block_text}
+use Rattle.out_json_csv.specs.Pairs.{pair_field, block_field}
 use Rattle.out_json_csv.specs.Owners.{part_word, slot_members, owner_members}
 
 -- the last block of a chain; null if the chain has no block
 abbrev pub last_value : LastBlock → Json
 last_value Missing = null
-last_value (Block block) = string (block_text block)
+last_value (Block block) = string (block_field block)
 
 -- the word for the end of a chain
 abbrev pub end_word : WayEnd → List ℕ
@@ -31,8 +31,8 @@ end_word (Loop track sector) = codes "loop"
 -- does
 abbrev pub end_value : WayEnd → Json
 end_value End = null
-end_value (Off track sector) = string (pair_text (track, sector))
-end_value (Loop track sector) = string (pair_text (track, sector))
+end_value (Off track sector) = string (pair_field (track, sector))
+end_value (Loop track sector) = string (pair_field (track, sector))
 
 -- where a chain ends, and how
 abbrev pub end_members : LastBlock → WayEnd → List Field
@@ -40,7 +40,7 @@ end_members at end = (codes "at", last_value at) ∷ (codes "end", string (end_w
 
 -- a block and its owners
 abbrev pub block_members : Disk → ℕ → List Field
-block_members image block = (codes "block", string (block_text block)) ∷ owner_members image (owners_of image block)
+block_members image block = (codes "block", string (block_field block)) ∷ owner_members image (owners_of image block)
 
 -- what a fault has beside its number
 abbrev pub fault_members : Disk → Fault → List Field
@@ -59,5 +59,5 @@ fault_object image fault = object_of ((codes "condition", numeral (number fault)
 unfoldable pub read_error_object : Disk → ReadError → Json
 read_error_object image error =
     object_of
-    ((codes "block", string (block_text error.block)) ∷ (codes "code", numeral error.code) ∷ (codes "status", numeral_or_null (drive_status error.code))
+    ((codes "block", string (block_field error.block)) ∷ (codes "code", numeral error.code) ∷ (codes "status", numeral_or_null (drive_status error.code))
     ∷ owner_members image (owners_of image error.block))

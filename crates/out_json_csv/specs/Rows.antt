@@ -25,8 +25,8 @@ field_where field = option_map_or (λ text. text ∷ []) field []
 
 -- a row on a line of its own: what comes before the digest, the digest if there is a column for it,
 -- the doubts, and the error
-abbrev pub row_of : List (List ℕ) → Option (List ℕ) → List ℕ → List ℕ → List ℕ
-row_of fields digest doubts error = row_text default_writer (fields ++ (field_where digest ++ doubts ∷ error ∷ []))
+abbrev pub csv_row_of : List (List ℕ) → Option (List ℕ) → List ℕ → List ℕ → List ℕ
+csv_row_of fields digest doubts error = row_text default_writer (fields ++ (field_where digest ++ doubts ∷ error ∷ []))
 
 -- a text in the column of the digest, if there is one
 abbrev pub in_digest : Bool → List ℕ → Option (List ℕ)
@@ -34,9 +34,9 @@ in_digest has_digest text = if has_digest then Some text else None
 
 -- the header row
 abbrev pub header_row : Bool → List ℕ
-header_row has_digest = row_of columns (in_digest has_digest (codes "sha256")) (codes "doubts") (codes "error")
+header_row has_digest = csv_row_of columns (in_digest has_digest (codes "sha256")) (codes "doubts") (codes "error")
 
 -- a row with only a name and an error
 unfoldable pub unanswered_row : List ℕ → Bool → List ℕ → List ℕ
 unanswered_row name has_digest error =
-    row_of (host_field name ∷ [] ∷ [] ∷ [] ∷ [] ∷ [] ∷ [] ∷ [] ∷ [] ∷ [] ∷ [] ∷ [] ∷ [] ∷ [] ∷ []) (in_digest has_digest []) [] error
+    csv_row_of (host_field name ∷ [] ∷ [] ∷ [] ∷ [] ∷ [] ∷ [] ∷ [] ∷ [] ∷ [] ∷ [] ∷ [] ∷ [] ∷ [] ∷ []) (in_digest has_digest []) [] error

@@ -2,7 +2,7 @@
 ghost use Rattle.std.specs.Prelude.{◌≡◌, [], ◌∷◌, ◌++◌, map, codes, OnOk};
 ghost use Rattle.std.specs.List.{flat_map};
 ghost use Rattle.out_json_csv.specs.Values.{Prints, PrintsMembers, array_of};
-ghost use Rattle.out_json_csv.specs.Doubts.{doubt_word as doubt_word_of, doubt_value, next_word, doubts_text};
+ghost use Rattle.out_json_csv.specs.Doubts.{doubt_word as doubt_word_of, doubt_value, next_word, doubt_names_text};
 
 use crate::csv_row::CsvRow;
 use d64_survey::Doubt;
@@ -52,9 +52,9 @@ fn push_next(text: &mut Vec<u8>, doubts: &[Doubt]) -> Result<(), AllocError>
 }
 
 /// Replaces the text by the names of doubts, with a space between them.
-#[tactic(auto, unfolding(crate::specs::Doubts::doubts_text))]
+#[tactic(auto, unfolding(crate::specs::Doubts::doubt_names_text))]
 fn spell_doubts(text: &mut Vec<u8>, doubts: &[Doubt]) -> Result<(), AllocError>
-    ensures { OnOk result (text.new.items ≡ doubts_text doubts.now) }
+    ensures { OnOk result (text.new.items ≡ doubt_names_text doubts.now) }
 {
     text.clear();
     match doubts {
@@ -72,7 +72,7 @@ pub(crate) fn push_doubts(
     row: &mut CsvRow,
     doubts: &[Doubt],
 ) -> Result<(), AllocError>
-    ensures { OnOk result (row.new ≡ row.old ++ doubts_text doubts.now ∷ []) }
+    ensures { OnOk result (row.new ≡ row.old ++ doubt_names_text doubts.now ∷ []) }
 {
     spell_doubts(scratch, doubts)?;
     row.push_field(scratch.as_slice())

@@ -2,7 +2,7 @@
 ghost use Rattle.std.specs.Prelude.{◌≡◌, [], ◌∷◌, ◌++◌, map, decimal, OnOk};
 ghost use Rattle.hex.specs.Hex.{encode_lower};
 ghost use Rattle.petscii.specs.Spelling.{spelling};
-ghost use Rattle.out_json_csv.specs.Pairs.{pair_text as pair_text_of};
+ghost use Rattle.out_json_csv.specs.Pairs.{pair_field as pair_text_of};
 ghost use Rattle.out_json_csv.specs.Rows.{truth_text as truth_text_of, host_field};
 
 use crate::csv_row::CsvRow;

@@ -2,7 +2,7 @@
 ghost use Rattle.std.specs.Prelude.{◌≡◌, [], ◌∷◌, map};
 ghost use Rattle.json.specs.Json.{string};
 ghost use Rattle.out_json_csv.specs.Values.{Prints, PrintsMembers, array_of, numeral_or_null};
-ghost use Rattle.out_json_csv.specs.Pairs.{block_text};
+ghost use Rattle.out_json_csv.specs.Pairs.{block_field};
 ghost use Rattle.out_json_csv.specs.Findings.{last_value, end_word as end_word_of, end_value, end_members, block_members, fault_members, fault_object, read_error_object};
 
 use crate::member::{put_null, put_number, put_pair, put_text};
@@ -14,7 +14,7 @@ use std::alloc::AllocError;
 
 /// Prints a member whose value is the pair of a block.
 fn put_block(writer: &mut Writer, key: &str, block: BlockNo) -> Result<(), AllocError>
-    ensures { PrintsMembers result writer.old writer.new ((key.now, string (block_text block)) ∷ []) }
+    ensures { PrintsMembers result writer.old writer.new ((key.now, string (block_field block)) ∷ []) }
 {
     put_pair(writer, key, block.track(), block.sector())
 }

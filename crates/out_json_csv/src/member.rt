@@ -3,7 +3,7 @@ ghost use Rattle.std.specs.Prelude.{[], ◌∷◌};
 ghost use Rattle.json.specs.Json.{boolean, null, string};
 ghost use Rattle.hex.specs.Hex.{encode_lower};
 ghost use Rattle.out_json_csv.specs.Values.{PrintsMembers, numeral};
-ghost use Rattle.out_json_csv.specs.Pairs.{pair_text};
+ghost use Rattle.out_json_csv.specs.Pairs.{pair_field};
 
 use crate::hexadecimal::{digits_are_ascii, spell_hexadecimal};
 use crate::pair_text::pair_text;
@@ -59,7 +59,7 @@ pub fn put_hexadecimal(
 
 /// Prints a member whose value is a pair of track and sector.
 pub fn put_pair(writer: &mut Writer, key: &str, track: u8, sector: u8) -> Result<(), AllocError>
-    ensures { PrintsMembers result writer.old writer.new ((key.now, string (pair_text (track, sector))) ∷ []) }
+    ensures { PrintsMembers result writer.old writer.new ((key.now, string (pair_field (track, sector))) ∷ []) }
 {
     let text = pair_text(track, sector);
     put_text(writer, key, text.as_str())

@@ -1,6 +1,6 @@
 //! Pairs of track and sector as text.
 ghost use Rattle.std.specs.Prelude.{◌≡◌};
-ghost use Rattle.out_json_csv.specs.Pairs.{pair_text};
+ghost use Rattle.out_json_csv.specs.Pairs.{pair_field};
 
 use arrayvec::ArrayString;
 use itoa::Buffer;
@@ -10,7 +10,7 @@ const MAX_LEN: usize = 7;
 
 /// Returns the text of a track and a sector, such as `17/3`.
 pub(crate) fn pair_text(track: u8, sector: u8) -> ArrayString<MAX_LEN>
-    ensures { result.bytes ≡ pair_text (track, sector) }
+    ensures { result.bytes ≡ pair_field (track, sector) }
 {
     let mut digits = Buffer::new();
     let mut text = ArrayString::new();

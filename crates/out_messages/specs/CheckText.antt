@@ -16,7 +16,7 @@ use Rattle.d64_survey.specs.declared.read_error.ReadError.{ReadError}
 use Rattle.petscii.specs.Spelling.{spelling}
 use Rattle.host_names.specs.Shown.{shown_name}
 use Rattle.out_messages.specs.Names.{quoted_name}
-use Rattle.out_messages.specs.Words.{count_of, line_below}
+use Rattle.out_messages.specs.Words.{counted_text, line_below}
 use Rattle.out_messages.specs.DoubtText.{unowned_text, doubts_text, is_of_unowned}
 use Rattle.out_messages.specs.FaultText.{fault_text, read_error_text}
 use Rattle.out_messages.specs.FileText.{file_lines}
@@ -27,11 +27,11 @@ label_text image = quoted_name (disk_name image) ++ (codes " " ++ spelling (disk
 
 -- what is on the disk
 unfoldable pub contents_text : Disk → List ℕ
-contents_text image = count_of (entry_count image) (codes "file") ++ (codes ", " ++ (count_of (blocks_free image) (codes "block") ++ codes " free"))
+contents_text image = counted_text (entry_count image) (codes "file") ++ (codes ", " ++ (counted_text (blocks_free image) (codes "block") ++ codes " free"))
 
 -- how many faults there are
 abbrev pub faults_text : ℕ → List ℕ
-faults_text count = if count == 0 then codes "sound" else count_of count (codes "fault")
+faults_text count = if count == 0 then codes "sound" else counted_text count (codes "fault")
 
 -- what joins the next item to the line: after `sound` it is a contrast
 abbrev pub joining : Bool → List ℕ
@@ -39,7 +39,7 @@ joining is_contrast = if is_contrast then codes ", but " else codes ", "
 
 -- how many more things are wrong, if there are any
 unfoldable pub and_so_many : Bool → ℕ → List ℕ → List ℕ
-and_so_many is_contrast count noun = if count == 0 then [] else joining is_contrast ++ count_of count noun
+and_so_many is_contrast count noun = if count == 0 then [] else joining is_contrast ++ counted_text count noun
 
 -- there is neither a fault nor a read error
 abbrev pub is_read_sound : DumpView → Bool

@@ -7,7 +7,7 @@ use Rattle.d64_survey.specs.Doubts.{directory_block, is_blank}
 use Rattle.d64_survey.specs.Owners.{unowned_count}
 use Rattle.d64_survey.specs.declared.doubt.Doubt.{Doubt}
 use Rattle.d64_survey.specs.declared.doubt.Doubt.TheVariants.{Version, Blank, Unowned, Filler}
-use Rattle.out_messages.specs.Words.{count_of}
+use Rattle.out_messages.specs.Words.{counted_text}
 
 -- the text for this many blocks that are marked used and that nothing owns
 abbrev pub unowned_words : ℕ → List ℕ
@@ -15,7 +15,7 @@ unowned_words count = if count == 1 then codes " is marked used and belongs to n
 
 -- the number of these blocks, with that text
 unfoldable pub unowned_text : ℕ → List ℕ
-unowned_text count = count_of count (codes "block") ++ unowned_words count
+unowned_text count = counted_text count (codes "block") ++ unowned_words count
 
 -- which of the first blocks of map and directory are blank; the flags say that the map's is, and
 -- the directory's

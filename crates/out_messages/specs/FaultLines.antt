@@ -4,7 +4,7 @@ use Rattle.std.specs.Prelude.{ℕ, List, [], ◌++◌, length, codes, decimal, i
 use Rattle.std.specs.Option.{option_map_or}
 use Rattle.host_names.specs.Shown.{shown_name}
 use Rattle.out_messages.specs.Guesses.{guess_of, guess_text}
-use Rattle.out_messages.specs.Words.{count_of}
+use Rattle.out_messages.specs.Words.{counted_text}
 use Rattle.out_messages.specs.declared.guess.Guess.{Guess}
 use Rattle.d64_g64.specs.File.{begins_as_g64}
 
@@ -42,7 +42,7 @@ seeming_text bytes = option_map_or (λ guess. codes "not read: " ++ guess_text g
 
 -- what people are shown of such a file: what it seems to be, and how many bytes it has
 abbrev pub no_dump_text : List ℕ → List ℕ
-no_dump_text bytes = seeming_text bytes ++ (codes " (" ++ (count_of (length bytes) (codes "byte") ++ codes ")"))
+no_dump_text bytes = seeming_text bytes ++ (codes " (" ++ (counted_text (length bytes) (codes "byte") ++ codes ")"))
 
 -- a length that no dump has, and what the file seems to be, if that is known
 abbrev pub wrong_length_text : List ℕ → List ℕ

@@ -13,7 +13,7 @@ use Rattle.d64_survey.specs.declared.way_end.WayEnd.{WayEnd}
 use Rattle.d64_survey.specs.declared.way_end.WayEnd.TheVariants.{End, Off, Loop}
 use Rattle.d64_survey.specs.declared.owner.Part.{Part}
 use Rattle.d64_survey.specs.declared.owner.Part.TheVariants.{Data, Side}
-use Rattle.out_messages.specs.Words.{count_of, pair_text, block_text}
+use Rattle.out_messages.specs.Words.{counted_text, pair_text, block_text}
 use Rattle.out_messages.specs.OwnerText.{file_part, block_owners}
 
 -- the last block of a chain, or what names its first block if the chain has none
@@ -53,11 +53,11 @@ end_text many at (Loop track sector) = loop_text many at (track, sector)
 -- the map's count of a track, and what it marks there
 unfoldable pub count_text : ℕ → ℕ → ℕ → List ℕ
 count_text track count marked =
-    codes "track " ++ (decimal track ++ (codes ": the map counts " ++ (count_of count (codes "free block") ++ (codes " and marks " ++ decimal marked))))
+    codes "track " ++ (decimal track ++ (codes ": the map counts " ++ (counted_text count (codes "free block") ++ (codes " and marks " ++ decimal marked))))
 
 -- that the type byte of a slot is of no kind
-unfoldable pub kind_text : Disk → ℕ → ℕ → List ℕ
-kind_text image slot type = file_part image slot Data ++ (codes " has the type byte " ++ (decimal type ++ codes ", which is not a file type"))
+unfoldable pub wrong_kind_text : Disk → ℕ → ℕ → List ℕ
+wrong_kind_text image slot type = file_part image slot Data ++ (codes " has the type byte " ++ (decimal type ++ codes ", which is not a file type"))
 
 -- a block, this text, and the owners of the block
 abbrev pub owned_text : Disk → ℕ → List ℕ → List ℕ
@@ -67,14 +67,14 @@ owned_text image block words = block_text block ++ (words ++ block_owners image 
 unfoldable pub fault_text : Disk → Fault → List ℕ
 fault_text image (WrongCount track count marked) = count_text track count marked
 fault_text image (BrokenDirectory at end) = codes "the directory" ++ end_text false at end
-fault_text image (UnknownKind slot type) = kind_text image slot type
+fault_text image (UnknownKind slot type) = wrong_kind_text image slot type
 fault_text image (BrokenFile slot part at end) = file_part image slot part ++ end_text (are_many part) at end
 fault_text image (Shared block) = owned_text image block (codes " is shared by ")
 fault_text image (MarkedFree block) = owned_text image block (codes " is marked free, but belongs to ")
 
 -- the drive's status for a read code, if it has one
-unfoldable pub status_text : Option ℕ → List ℕ
-status_text status = option_map_or (λ number. codes ", drive error " ++ decimal number) status []
+unfoldable pub drive_status_text : Option ℕ → List ℕ
+drive_status_text status = option_map_or (λ number. codes ", drive error " ++ decimal number) status []
 
 -- the owners of a block, if it has any
 unfoldable pub belonging_text : Disk → ℕ → List ℕ
@@ -84,4 +84,4 @@ belonging_text image block =
 -- a read error
 unfoldable pub read_error_text : Disk → ReadError → List ℕ
 read_error_text image error =
-    block_text error.block ++ (codes " could not be read: code " ++ (decimal error.code ++ (status_text (drive_status error.code) ++ belonging_text image error.block)))
+    block_text error.block ++ (codes " could not be read: code " ++ (decimal error.code ++ (drive_status_text (drive_status error.code) ++ belonging_text image error.block)))

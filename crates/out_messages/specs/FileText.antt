@@ -12,7 +12,7 @@ use Rattle.d64_survey.specs.SlotBlocks.{slot_blocks}
 use Rattle.d64_survey.specs.declared.flaw.Flaw.{Flaw}
 use Rattle.d64_survey.specs.declared.flaw.Flaw.TheVariants.{Unclosed, Kindless, Broken, Shared, Unreadable, Missized, Geos}
 use Rattle.out_messages.specs.Names.{quoted_name}
-use Rattle.out_messages.specs.Words.{count_of, line_below}
+use Rattle.out_messages.specs.Words.{counted_text, line_below}
 
 -- the three letters of a kind
 abbrev pub kind_letters : Kind → List ℕ
@@ -28,7 +28,7 @@ letters_of cell = if has_kind cell then kind_letters (kind_of cell) else codes "
 
 -- the size that the directory gives, and how many blocks there are
 unfoldable pub size_text : ℕ → ℕ → List ℕ
-size_text shown there = codes "the directory says " ++ (count_of shown (codes "block") ++ (codes ", " ++ (decimal there ++ (if there == 1 then codes " is there" else codes " are there"))))
+size_text shown there = codes "the directory says " ++ (counted_text shown (codes "block") ++ (codes ", " ++ (decimal there ++ (if there == 1 then codes " is there" else codes " are there"))))
 
 -- a reason why a file is not whole; the directory has this size, and this many blocks are there
 unfoldable pub flaw_text : ℕ → ℕ → Flaw → List ℕ

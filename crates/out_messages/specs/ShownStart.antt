@@ -17,9 +17,9 @@ first_characters count (byte ∷ rest) =
 abbrev pub most_characters : ℕ
 most_characters = 200
 
-abbrev pub most_bytes : ℕ
-most_bytes = 800
+abbrev pub most_shown_bytes : ℕ
+most_shown_bytes = 800
 
 -- the first characters of a line as it is shown
 abbrev pub shown_start : List ℕ → List ℕ
-shown_start text = first_characters most_characters (shown_name (take most_bytes text))
+shown_start text = first_characters most_characters (shown_name (take most_shown_bytes text))

@@ -7,8 +7,8 @@ abbrev pub plural_of : ℕ → List ℕ
 plural_of count = if count == 1 then [] else codes "s"
 
 -- a number and a noun: `1 file`, `2 files`
-unfoldable pub count_of : ℕ → List ℕ → List ℕ
-count_of count noun = decimal count ++ (codes " " ++ (noun ++ plural_of count))
+unfoldable pub counted_text : ℕ → List ℕ → List ℕ
+counted_text count noun = decimal count ++ (codes " " ++ (noun ++ plural_of count))
 
 -- a track and a sector: `17/3`
 unfoldable pub pair_text : ℕ × ℕ → List ℕ

@@ -1,7 +1,7 @@
 //! The faults of an image and its read errors, in words.
 ghost use Rattle.std.specs.Prelude.{◌≡◌, ◌++◌, false, codes, OnOk};
 ghost use Rattle.out_messages.specs.OwnerText.{file_part};
-ghost use Rattle.out_messages.specs.FaultText.{last_text, are_many, breaks_text, loops_text, ends_text, off_text, loop_text, end_text, count_text, kind_text, owned_text, fault_text, status_text, belonging_text, read_error_text};
+ghost use Rattle.out_messages.specs.FaultText.{last_text, are_many, breaks_text, loops_text, ends_text, off_text, loop_text, end_text, count_text, wrong_kind_text, owned_text, fault_text, drive_status_text, belonging_text, read_error_text};
 
 use crate::number::push_number;
 use crate::owner_text::{push_owners, push_part};
@@ -120,14 +120,14 @@ fn push_track_counts(out: &mut Vec<u8>, track: u8, count: u8, marked: u8) -> Res
 }
 
 /// Appends that a type byte has no kind.
-#[tactic(auto, unfolding(crate::specs::FaultText::kind_text))]
+#[tactic(auto, unfolding(crate::specs::FaultText::wrong_kind_text))]
 fn push_type(
     out: &mut Vec<u8>,
     survey: &Survey,
     slot: SlotNo,
     type_byte: u8,
 ) -> Result<(), AllocError>
-    ensures { OnOk result (out.new.items ≡ out.old.items ++ kind_text survey.now slot type_byte) }
+    ensures { OnOk result (out.new.items ≡ out.old.items ++ wrong_kind_text survey.now slot type_byte) }
 {
     push_part(out, survey, slot, Part::Data)?;
     out.extend_from_slice(b" has the type byte ")?;
@@ -193,9 +193,9 @@ pub fn push_fault(out: &mut Vec<u8>, survey: &Survey, fault: Fault) -> Result<()
 }
 
 /// Appends the drive's status for a read code, if it has one.
-#[tactic(auto, unfolding(crate::specs::FaultText::status_text))]
+#[tactic(auto, unfolding(crate::specs::FaultText::drive_status_text))]
 pub fn push_status(out: &mut Vec<u8>, status: Option<u8>) -> Result<(), AllocError>
-    ensures { OnOk result (out.new.items ≡ out.old.items ++ status_text status) }
+    ensures { OnOk result (out.new.items ≡ out.old.items ++ drive_status_text status) }
 {
     match status {
         Some(number) => {

@@ -2,7 +2,7 @@
 ghost use Rattle.std.specs.Prelude.{◌≡◌, ◌++◌, OnOk};
 ghost use Rattle.petscii.specs.Spelling.{spelling};
 ghost use Rattle.out_messages.specs.Names.{quoted_name};
-ghost use Rattle.out_messages.specs.Words.{plural_of, count_of, pair_text, block_text};
+ghost use Rattle.out_messages.specs.Words.{plural_of, counted_text, pair_text, block_text};
 
 use crate::number::push_number;
 use d64_image::BlockNo;
@@ -32,9 +32,9 @@ fn plural_of(count: usize) -> &'static [u8]
 }
 
 /// Appends a number and a noun.
-#[tactic(auto, unfolding(crate::specs::Words::count_of))]
+#[tactic(auto, unfolding(crate::specs::Words::counted_text))]
 pub fn push_count(out: &mut Vec<u8>, count: usize, noun: &[u8]) -> Result<(), AllocError>
-    ensures { OnOk result (out.new.items ≡ out.old.items ++ count_of count noun.now) }
+    ensures { OnOk result (out.new.items ≡ out.old.items ++ counted_text count noun.now) }
 {
     push_number(out, count)?;
     out.extend_from_slice(b" ")?;

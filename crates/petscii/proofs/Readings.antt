@@ -4,7 +4,7 @@ use Rattle.std.proofs.lemmas.List.{append-nil, take_all}
 use Rattle.std.proofs.lemmas.List.Elements.{All-head, All-tail}
 use Rattle.petscii.specs.Spelling.{spell, spelling}
 use Rattle.petscii.specs.TextForm.{open_brace, close_brace, IsUnit, IsAccepted, BeginsWith, IsTextOf}
-use Rattle.petscii.specs.TextFault.{BeginsUnknownName, BeginsOpenBrace, BeginsBadByte, BeginsFault, IsFirstFault}
+use Rattle.petscii.specs.TextFault.{BeginsUnknownName, BeginsOpenBrace, BeginsBadByte, BeginsFault, IsFirstTextFault}
 use Rattle.petscii.specs.declared.fault.TextFault.{TextFault}
 use Rattle.petscii.specs.declared.fault.TextFault.TheVariants.{UnknownName, OpenBrace, BadByte, Memory}
 use Rattle.petscii.proofs.UnitForms.{spell_unit, spell_accepted}
@@ -119,7 +119,7 @@ not_empty place (BadByte at) (is, begins) = let same : [] ≡ begins.byte ∷ be
 not_empty place (Memory error) none = none
 
 -- a text of bytes has no fault
-pub no_fault : (text bytes : List ℕ) (fault : TextFault) → IsTextOf bytes text → ¬ (IsFirstFault text fault)
+pub no_fault : (text bytes : List ℕ) (fault : TextFault) → IsTextOf bytes text → ¬ (IsFirstTextFault text fault)
 no_fault text bytes fault read first =
     let stop = same_stop bytes first.bytes text first.before [] first.left read first.read (append-nil text ∙ first.joined) stuck_end (stuck_fault (length first.before) first.left fault first.begins) in
     not_empty (length first.before) fault (subst (λ (w : List ℕ). BeginsFault (length first.before) w fault) (sym stop.left) first.begins)
@@ -152,7 +152,7 @@ one_begin place left (Memory x) b none other = absurd none
 one_begin place left a (Memory y) one none = absurd none
 
 -- a text has no two leftmost faults
-pub one_fault : (text : List ℕ) (a b : TextFault) → IsFirstFault text a → IsFirstFault text b → a ≡ b
+pub one_fault : (text : List ℕ) (a b : TextFault) → IsFirstTextFault text a → IsFirstTextFault text b → a ≡ b
 one_fault text a b one other =
     let stop = same_stop one.bytes other.bytes one.before other.before one.left other.left one.read other.read (sym one.joined ∙ other.joined)
     (stuck_fault (length one.before) one.left a one.begins) (stuck_fault (length other.before) other.left b other.begins) in

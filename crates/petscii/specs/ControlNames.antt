@@ -13,10 +13,10 @@ control_names =
     ∷ (0x9c, codes "pur") ∷ (0x9d, codes "left") ∷ (0x9e, codes "yel") ∷ (0x9f, codes "cyn") ∷ []
 
 -- The name in the first row that has a code.
-abbrev pub name_in : List (ℕ × List ℕ) → ℕ → Option (List ℕ)
-name_in [] code = None
-name_in (row ∷ rows) code = if code == row.0 then Some row.1 else name_in rows code
+abbrev pub control_name_in : List (ℕ × List ℕ) → ℕ → Option (List ℕ)
+control_name_in [] code = None
+control_name_in (row ∷ rows) code = if code == row.0 then Some row.1 else control_name_in rows code
 
 -- The name of a control code.
 unfoldable pub control_name : ℕ → Option (List ℕ)
-control_name code = name_in control_names code
+control_name code = control_name_in control_names code

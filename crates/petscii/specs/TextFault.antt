@@ -39,7 +39,7 @@ BeginsFault from left (BadByte place) = (place ≡ from) × BeginsBadByte left
 BeginsFault from left (Memory error) = ⊥
 
 -- The leftmost fault of a text: the part before it is the text of some bytes.
-pub record IsFirstFault (text : List ℕ) (fault : TextFault) : Type 0 where
+pub record IsFirstTextFault (text : List ℕ) (fault : TextFault) : Type 0 where
   pub bytes : List ℕ
   pub before : List ℕ
   pub left : List ℕ
@@ -48,14 +48,14 @@ pub record IsFirstFault (text : List ℕ) (fault : TextFault) : Type 0 where
   pub begins : BeginsFault (length before) left fault
 
 -- The fault is that there was no memory for the bytes.
-abbrev pub IsOfMemory : TextFault → Type 0
-IsOfMemory (Memory error) = Unit {0}
-IsOfMemory fault = ⊥
+abbrev pub IsTextOutOfMemory : TextFault → Type 0
+IsTextOutOfMemory (Memory error) = Unit {0}
+IsTextOutOfMemory fault = ⊥
 
 -- The text of some bytes has no fault.
 abbrev pub HasNoFaultIfRead : List ℕ → Type 0
-HasNoFaultIfRead text = (bytes : List ℕ) (fault : TextFault) → IsTextOf bytes text → ¬ (IsFirstFault text fault)
+HasNoFaultIfRead text = (bytes : List ℕ) (fault : TextFault) → IsTextOf bytes text → ¬ (IsFirstTextFault text fault)
 
 -- A text has at most one leftmost fault.
 abbrev pub HasOneFault : List ℕ → Type 0
-HasOneFault text = (a b : TextFault) → IsFirstFault text a → IsFirstFault text b → a ≡ b
+HasOneFault text = (a b : TextFault) → IsFirstTextFault text a → IsFirstTextFault text b → a ≡ b

@@ -4,7 +4,7 @@ ghost use Rattle.std.specs.Prelude.{◌≡◌, ℕ, List};
 ghost use Rattle.petscii.specs.declared.fault.TextFault.{TextFault};
 ghost use Rattle.petscii.specs.Spelling.{spelling};
 ghost use Rattle.petscii.specs.TextForm.{IsTextOf, HasOneReading};
-ghost use Rattle.petscii.specs.TextFault.{IsFirstFault, HasNoFaultIfRead, HasOneFault};
+ghost use Rattle.petscii.specs.TextFault.{IsFirstTextFault, HasNoFaultIfRead, HasOneFault};
 
 /// A text has one outcome: it stands for at most one list of bytes, it has a fault only if it
 /// stands for no bytes, and only one fault is its leftmost one.
@@ -21,5 +21,5 @@ pub fn one_outcome(text: &[u8])
 pub fn spelling_reads_back(bytes: &[u8])
     ensures read { IsTextOf bytes.now (spelling bytes.now) }
     ensures only { (others : List ℕ) → IsTextOf others (spelling bytes.now) → others ≡ bytes.now }
-    ensures no_fault { (fault : TextFault) → ¬ (IsFirstFault (spelling bytes.now) fault) }
+    ensures no_fault { (fault : TextFault) → ¬ (IsFirstTextFault (spelling bytes.now) fault) }
 {}

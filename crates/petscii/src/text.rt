@@ -3,7 +3,7 @@
 ghost use Rattle.std.specs.Prelude.{◌≡◌, ◌⊎◌, ◌++◌, IfOk, IfErr, OnOk};
 ghost use Rattle.petscii.specs.Spelling.{spell, spelling};
 ghost use Rattle.petscii.specs.TextForm.{IsTextOf};
-ghost use Rattle.petscii.specs.TextFault.{IsFirstFault, IsOfMemory};
+ghost use Rattle.petscii.specs.TextFault.{IsFirstTextFault, IsTextOutOfMemory};
 
 use crate::character::{character_of, digit_of};
 use crate::control::name_of_code;
@@ -63,7 +63,7 @@ pub(crate) fn push_unit(text: &mut Vec<u8>, byte: u8) -> Result<(), AllocError>
 /// bytes.
 pub fn from_text(alloc: Global, text: &[u8]) -> Result<Vec<u8>, TextFault>
     ensures read { IfOk result (λ bytes. IsTextOf bytes.items text.now) }
-    ensures fault { IfErr result (λ fault. IsOfMemory fault ⊎ IsFirstFault text.now fault) }
+    ensures fault { IfErr result (λ fault. IsTextOutOfMemory fault ⊎ IsFirstTextFault text.now fault) }
 {
     let mut bytes = Vec::new(alloc);
     let mut left = text;

@@ -14,5 +14,5 @@ abbrev pub IsCommand : App → Command → Type 0
 IsCommand app command = (app_of command ≡ app) × ((fields_of command).has_globals ≡ false)
 
 -- such a command was made, unless memory ran out
-abbrev pub IsMade : {E : Type 0} → App → Result Command E → Type 0
-IsMade app made = IfOk made (IsCommand app)
+abbrev pub IsCommandMade : {E : Type 0} → App → Result Command E → Type 0
+IsCommandMade app made = IfOk made (IsCommand app)

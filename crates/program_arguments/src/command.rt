@@ -4,7 +4,7 @@ ghost use Rattle.std.specs.Prelude.{◌≡◌, IfOk, false, option_map};
 ghost use Rattle.clap.specs.Words.{App, Rule, app_of, kind_of, new_app, rule_of, with_rule, with_subcommand};
 ghost use Rattle.clap.specs.declared.builder.command.Command.TheViews.{out-Command as fields_of};
 ghost use Rattle.program_arguments.specs.Commands.{bare_app, d64sh, app_named, shell, petcat, crunch, check, files, extract, map, diff, merge, catalogue, survey, with_leftovers, with_names, file_argument, image_argument, required_argument, files_argument, with_preference, valued_option, output_option, line_option, stop_flag, flag, with_script};
-ghost use Rattle.program_arguments.specs.Making.{IsArgument, IsMade};
+ghost use Rattle.program_arguments.specs.Making.{IsArgument, IsCommandMade};
 
 use crate::help::help_of;
 use clap::error::ErrorKind;
@@ -16,7 +16,7 @@ const VERSION: &str = "0.3.0";
 
 /// Returns the command `d64sh`, with its subcommands.
 pub(crate) fn d64sh<'a>(alloc: Global) -> Result<Command<'a>, AllocError>
-    ensures { IsMade d64sh result }
+    ensures { IsCommandMade d64sh result }
 {
     let command = with_subcommand(Ok(bare(alloc)), shell(alloc));
     let command = with_subcommand(command, petcat(alloc));
@@ -99,7 +99,7 @@ fn with_argument<'a>(
     command: Result<Command<'a>, AllocError>,
     argument: Arg<'a>,
 ) -> Result<Command<'a>, AllocError>
-    ensures { (app : App) (rule : Rule) → IsMade app command.entry → IsArgument rule argument.entry → IsMade (with_rule app rule) result }
+    ensures { (app : App) (rule : Rule) → IsCommandMade app command.entry → IsArgument rule argument.entry → IsCommandMade (with_rule app rule) result }
 {
     match command {
         Ok(command) => command.arg(argument),
@@ -112,7 +112,7 @@ fn with_subcommand<'a>(
     command: Result<Command<'a>, AllocError>,
     subcommand: Result<Command<'a>, AllocError>,
 ) -> Result<Command<'a>, AllocError>
-    ensures { (app below : App) → IsMade app command.entry → IsMade below subcommand.entry → IsMade (with_subcommand app below.top) result }
+    ensures { (app below : App) → IsCommandMade app command.entry → IsCommandMade below subcommand.entry → IsCommandMade (with_subcommand app below.top) result }
 {
     match command {
         Ok(command) => command.subcommand(subcommand?),
@@ -123,7 +123,7 @@ fn with_subcommand<'a>(
 /// Returns `shell [-e] [-c LINE].. [--tracks N] [IMAGE]` and `shell [-e] [-c LINE].. --resume FILE
 /// [IMAGE]`.
 fn shell<'a>(alloc: Global) -> Result<Command<'a>, AllocError>
-    ensures { IsMade shell result }
+    ensures { IsCommandMade shell result }
 {
     let tracks = valued_option(
         alloc,
@@ -148,7 +148,7 @@ fn with_script<'a>(
     alloc: Global,
     command: Result<Command<'a>, AllocError>,
 ) -> Result<Command<'a>, AllocError>
-    ensures { (app : App) → IsMade app command.entry → IsMade (with_script app) result }
+    ensures { (app : App) → IsCommandMade app command.entry → IsCommandMade (with_script app) result }
 {
     let command = with_argument(command, line_option(alloc));
     with_argument(command, stop_flag(alloc))
@@ -156,7 +156,7 @@ fn with_script<'a>(
 
 /// Returns `petcat [-o FILE] [FILE]`.
 fn petcat<'a>(alloc: Global) -> Result<Command<'a>, AllocError>
-    ensures { IsMade petcat result }
+    ensures { IsCommandMade petcat result }
 {
     let output = output_option(alloc, "The text's file; without it, the standard output");
     let command = with_argument(Ok(subcommand(alloc, "petcat")), output);
@@ -166,7 +166,7 @@ fn petcat<'a>(alloc: Global) -> Result<Command<'a>, AllocError>
 
 /// Returns `crunch [--start HEX] [-o FILE] [FILE]`.
 fn crunch<'a>(alloc: Global) -> Result<Command<'a>, AllocError>
-    ensures { IsMade crunch result }
+    ensures { IsCommandMade crunch result }
 {
     let start = valued_option(
         alloc,
@@ -183,7 +183,7 @@ fn crunch<'a>(alloc: Global) -> Result<Command<'a>, AllocError>
 
 /// Returns `check [--digest]` with the arguments of a survey.
 fn check<'a>(alloc: Global) -> Result<Command<'a>, AllocError>
-    ensures { IsMade check result }
+    ensures { IsCommandMade check result }
 {
     let digest = flag(
         alloc,
@@ -196,7 +196,7 @@ fn check<'a>(alloc: Global) -> Result<Command<'a>, AllocError>
 
 /// `files [--deleted] [--orphans]` with the arguments of a survey.
 fn files<'a>(alloc: Global) -> Result<Command<'a>, AllocError>
-    ensures { IsMade files result }
+    ensures { IsCommandMade files result }
 {
     let command = with_leftovers(alloc, Ok(subcommand(alloc, "files")));
     survey(alloc, command)
@@ -205,7 +205,7 @@ fn files<'a>(alloc: Global) -> Result<Command<'a>, AllocError>
 /// `extract [--into FOLDER] [--part] [--skip-existing] [--deleted] [--orphans]` with the
 /// arguments of a survey.
 fn extract<'a>(alloc: Global) -> Result<Command<'a>, AllocError>
-    ensures { IsMade extract result }
+    ensures { IsCommandMade extract result }
 {
     let into = valued_option(
         alloc,
@@ -236,7 +236,7 @@ fn with_leftovers<'a>(
     alloc: Global,
     command: Result<Command<'a>, AllocError>,
 ) -> Result<Command<'a>, AllocError>
-    ensures { (app : App) → IsMade app command.entry → IsMade (with_leftovers app) result }
+    ensures { (app : App) → IsCommandMade app command.entry → IsCommandMade (with_leftovers app) result }
 {
     let deleted = flag(
         alloc,
@@ -254,7 +254,7 @@ fn with_leftovers<'a>(
 
 /// Returns `map [--format FORMAT] FILE`.
 fn map<'a>(alloc: Global) -> Result<Command<'a>, AllocError>
-    ensures { IsMade map result }
+    ensures { IsCommandMade map result }
 {
     let format = valued_option(
         alloc,
@@ -269,7 +269,7 @@ fn map<'a>(alloc: Global) -> Result<Command<'a>, AllocError>
 
 /// Returns `diff [--format FORMAT] OLD NEW`.
 fn diff<'a>(alloc: Global) -> Result<Command<'a>, AllocError>
-    ensures { IsMade diff result }
+    ensures { IsCommandMade diff result }
 {
     let format = valued_option(
         alloc,
@@ -286,7 +286,7 @@ fn diff<'a>(alloc: Global) -> Result<Command<'a>, AllocError>
 
 /// `merge -o OUT [--plain] [--majority] [--first] [--format FORMAT] FILE..`.
 fn merge<'a>(alloc: Global) -> Result<Command<'a>, AllocError>
-    ensures { IsMade merge result }
+    ensures { IsCommandMade merge result }
 {
     let command = with_argument(Ok(subcommand(alloc, "merge")), out_option(alloc));
     let plain = flag(alloc, "plain", "Leave out the read codes of the blocks");
@@ -308,7 +308,7 @@ fn with_preference<'a>(
     alloc: Global,
     command: Result<Command<'a>, AllocError>,
 ) -> Result<Command<'a>, AllocError>
-    ensures { (app : App) → IsMade app command.entry → IsMade (with_preference app) result }
+    ensures { (app : App) → IsCommandMade app command.entry → IsCommandMade (with_preference app) result }
 {
     let majority = flag(
         alloc,
@@ -326,7 +326,7 @@ fn with_preference<'a>(
 
 /// Returns `catalogue [--maps] [--title TEXT] [--links FOLDER]` with the names of files.
 fn catalogue<'a>(alloc: Global) -> Result<Command<'a>, AllocError>
-    ensures { IsMade catalogue result }
+    ensures { IsCommandMade catalogue result }
 {
     let maps = flag(alloc, "maps", "Add a picture of the blocks of each image");
     let command = with_argument(Ok(subcommand(alloc, "catalogue")), maps);
@@ -353,7 +353,7 @@ fn survey<'a>(
     alloc: Global,
     command: Result<Command<'a>, AllocError>,
 ) -> Result<Command<'a>, AllocError>
-    ensures { (app : App) → IsMade app command.entry → IsMade (survey app) result }
+    ensures { (app : App) → IsCommandMade app command.entry → IsCommandMade (survey app) result }
 {
     let format = valued_option(
         alloc,
@@ -371,7 +371,7 @@ fn with_names<'a>(
     alloc: Global,
     command: Result<Command<'a>, AllocError>,
 ) -> Result<Command<'a>, AllocError>
-    ensures { (app : App) → IsMade app command.entry → IsMade (with_names app) result }
+    ensures { (app : App) → IsCommandMade app command.entry → IsCommandMade (with_names app) result }
 {
     let list = valued_option(
         alloc,

@@ -2,7 +2,7 @@
 
 ghost use Rattle.std.specs.Prelude.{◌≡◌, ◌≤◌, ◌↔◌, IfSome, IsTrue, length, option_map};
 ghost use Rattle.program_arguments.specs.Requested.{IsReportedAs, IsHelpOrVersion};
-ghost use Rattle.program_arguments.specs.FaultText.{text_of};
+ghost use Rattle.program_arguments.specs.FaultText.{fault_text_of};
 ghost use Rattle.program_arguments.specs.declared.jobs.JobFault.TheVariants.{Memory};
 
 use clap::Error as WordsError;
@@ -222,7 +222,7 @@ impl JobFault {
 
     /// Returns the text of the fault, or None for an error of `clap`'s, which has its own.
     pub fn text(&self) -> Option<&'static str>
-        ensures text { option_map (λ text. text.now) result ≡ text_of self.now }
+        ensures text { option_map (λ text. text.now) result ≡ fault_text_of self.now }
         ensures fits { IfSome result (λ text. length text.now ≤ 56) }
     {
         match self {

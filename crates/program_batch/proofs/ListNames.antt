@@ -4,16 +4,16 @@ use Rattle.std.proofs.lemmas.Bool.{cases_Bool, lt-ltb}
 use Rattle.std.proofs.lemmas.List.{map-append, length-take, length-take-le, take-append-le, take_all}
 use Rattle.std.proofs.lemmas.List.Elements.{filter-append}
 use Rattle.std.proofs.Math.Seq.{take-append-add}
-use Rattle.program_batch.specs.Names.{kept_name, is_name, listed_name, requests_in, requests_of}
+use Rattle.program_batch.specs.Names.{kept_name, is_listed_name, listed_name, requests_in, requests_of}
 
 -- a piece is a name if and only if what is kept of it is one
-is_name-kept_name : (piece : List ℕ) → is_name (kept_name piece) ≡ is_name piece
+is_name-kept_name : (piece : List ℕ) → is_listed_name (kept_name piece) ≡ is_listed_name piece
 is_name-kept_name [] = refl
 is_name-kept_name (x ∷ xs) =
     lt-ltb 0 (length (kept_name (x ∷ xs))) (omega (arith, length-take 4097 (x ∷ xs))) ∙ sym (lt-ltb 0 (length (x ∷ xs)) (omega arith))
 
 -- one piece is one request if it is a name, and no request if not
-one_piece : (piece : List ℕ) (test : Bool) → is_name piece ≡ test → map listed_name (map kept_name (filter is_name (piece ∷ []))) ≡ requests_of (kept_name piece)
+one_piece : (piece : List ℕ) (test : Bool) → is_listed_name piece ≡ test → map listed_name (map kept_name (filter is_listed_name (piece ∷ []))) ≡ requests_of (kept_name piece)
 one_piece piece true is =
     ap (λ t. map listed_name (map kept_name (if t then piece ∷ [] else []))) is ∙ sym (ap (λ t. if t then listed_name (kept_name piece) ∷ [] else []) (is_name-kept_name piece ∙ is))
 one_piece piece false is =
@@ -27,14 +27,14 @@ requests_in-nil = refl
 pub requests_in-append : (xs ys : List (List ℕ)) → requests_in (xs ++ ys) ≡ requests_in xs ++ requests_in ys
 unfolding requests_in
 requests_in-append xs ys =
-    ap (λ l. map listed_name (map kept_name l)) (filter-append is_name xs ys)
-    ∙ ap (map listed_name) (map-append kept_name (filter is_name xs) (filter is_name ys))
-    ∙ map-append listed_name (map kept_name (filter is_name xs)) (map kept_name (filter is_name ys))
+    ap (λ l. map listed_name (map kept_name l)) (filter-append is_listed_name xs ys)
+    ∙ ap (map listed_name) (map-append kept_name (filter is_listed_name xs) (filter is_listed_name ys))
+    ∙ map-append listed_name (map kept_name (filter is_listed_name xs)) (map kept_name (filter is_listed_name ys))
 
 -- one part gives the same requests as its kept bytes
 pub requests_in-one : (part : List ℕ) → requests_in (part ∷ []) ≡ requests_of (kept_name part)
 unfolding requests_in
-requests_in-one part = one_piece part (is_name part) refl
+requests_in-one part = one_piece part (is_listed_name part) refl
 
 -- keeping byte by byte is keeping at once
 taken_push : (n : ℕ) (bytes more : List ℕ) → take n (take n bytes ++ more) ≡ take n (bytes ++ more)

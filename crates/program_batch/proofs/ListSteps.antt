@@ -5,7 +5,7 @@ use Rattle.program_batch.specs.Names.{Request, kept_name, requests_in, requests_
 use Rattle.program_batch.specs.Answers.{Effects, KeepsQuiet}
 use Rattle.program_batch.specs.declared.list_batch.ListRun.{ListRun}
 use Rattle.program_batch.specs.Runs.{RunState, Steps, Runs, StopsIn, EndsAt}
-use Rattle.program_batch.specs.Lists.{HasComeTo, KeepsList, ListView, effects_of, state_of}
+use Rattle.program_batch.specs.Lists.{HasComeTo, KeepsList, ListView, effects_of, list_state_of}
 use Rattle.program_console.specs.declared.stream_fault.StreamFault.{StreamFault}
 use Rattle.program_batch.proofs.RunSteps.{Steps-none, Runs-one, Runs-append, StopsIn-more}
 use Rattle.program_batch.proofs.ListNames.{requests_in-append, requests_in-nil, requests_in-one}
@@ -24,7 +24,7 @@ HasComeTo-none view run fresh delivered = record {
   keeps = KeepsList-none view run;
   delivered = (delivered, refl);
   held = fresh;
-  answered = subst (λ (l : List Request). Steps (effects_of view run) l (state_of view run) (state_of view run)) (sym requests_in-nil) (Steps-none (effects_of view run) (state_of view run));
+  answered = subst (λ (l : List Request). Steps (effects_of view run) l (list_state_of view run) (list_state_of view run)) (sym requests_in-nil) (Steps-none (effects_of view run) (list_state_of view run));
 }
 
 -- what stays the same stays so

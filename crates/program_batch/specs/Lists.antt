@@ -56,8 +56,8 @@ view_of {H} {C} {W} {F} {O} options effects host printed complained =
 abbrev pub effects_of : {H C W F : Type 0} → ListView H C W F → ListRun H C W F → Effects
 effects_of view run = view.effects (view.options run.task.now)
 
-abbrev pub state_of : {H C W F : Type 0} → ListView H C W F → ListRun H C W F → RunState
-state_of view run = run_state_at view.printed view.complained run.outputs.now (view.host run.host.now) run.list.now.batch.worst
+abbrev pub list_state_of : {H C W F : Type 0} → ListView H C W F → ListRun H C W F → RunState
+list_state_of view run = run_state_at view.printed view.complained run.outputs.now (view.host run.host.now) run.list.now.batch.worst
 
 -- what stays the same in a run over a list; a quiet task that finds nothing amiss leaves the
 -- standard error alone
@@ -73,10 +73,10 @@ pub record HasComeTo {H C W F : Type 0} (view : ListView H C W F) (first now : L
   pub keeps : KeepsList view first now
   pub delivered : Delivers first.outputs.now.output now.outputs.now.output
   pub held : now.list.now.name ≡ kept_name begun
-  pub answered : Steps (effects_of view first) (requests_in parts) (state_of view first) (state_of view now)
+  pub answered : Steps (effects_of view first) (requests_in parts) (list_state_of view first) (list_state_of view now)
 
 -- a run over a list of these parts has ended
 pub record EndsList {H C W F : Type 0} (view : ListView H C W F) (first now : ListRun H C W F) (parts : List (List ℕ)) (ended : Result (Unit {0}) StreamFault) : Type 0 where
   pub keeps : KeepsList view first now
   pub delivered : OnOk ended (Delivers first.outputs.now.output now.outputs.now.output)
-  pub answered : Runs (effects_of view first) (requests_in parts) (state_of view first) (state_of view now) ended
+  pub answered : Runs (effects_of view first) (requests_in parts) (list_state_of view first) (list_state_of view now) ended

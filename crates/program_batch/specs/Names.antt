@@ -13,8 +13,8 @@ abbrev pub kept_name : List ℕ → List ℕ
 kept_name name = take 4097 name
 
 -- a piece between separators is a name, unless it is empty
-abbrev pub is_name : List ℕ → Bool
-is_name piece = nat_lt 0 (length piece)
+abbrev pub is_listed_name : List ℕ → Bool
+is_listed_name piece = nat_lt 0 (length piece)
 
 -- what a run is given: a file with this name, or a name that cannot be a file's, with what is shown
 -- of it and the reason
@@ -41,9 +41,9 @@ listed_name name = if is_file_name name then File name else NoFile (shortened_na
 
 -- the requests for a piece of a list of which this is kept: none if it is empty
 abbrev pub requests_of : List ℕ → List Request
-requests_of piece = if is_name piece then listed_name piece ∷ [] else []
+requests_of piece = if is_listed_name piece then listed_name piece ∷ [] else []
 
 -- the requests for the parts of a list between its separators: one for each name, none for the
 -- empty parts
 unfoldable pub requests_in : List (List ℕ) → List Request
-requests_in parts = map listed_name (map kept_name (filter is_name parts))
+requests_in parts = map listed_name (map kept_name (filter is_listed_name parts))

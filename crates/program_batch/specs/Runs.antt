@@ -79,9 +79,9 @@ abbrev pub explained : Option Reason → Answer → Answer
 explained reason answer = record answer { complaint = with_known_reason reason answer.complaint }
 
 -- how a name is shown
-abbrev pub shown_name : Request → List ℕ
-shown_name (File name) = name
-shown_name (NoFile name reason) = name
+abbrev pub shown_request : Request → List ℕ
+shown_request (File name) = name
+shown_request (NoFile name reason) = name
 
 -- a result was written: all of it to the standard output, which was flushed, and to the standard
 -- error unless that failed; and its verdict counts
@@ -117,7 +117,7 @@ pub record Serves (effects : Effects) (request : Request) (old : HostState) (ans
   pub host : HostState
   pub read : IsRead request old bytes host
   pub plain : Answer
-  pub done : effects.does (shown_name request) bytes host plain new
+  pub done : effects.does (shown_request request) bytes host plain new
   pub reason : Option Reason
   pub why : SaysWhy request old bytes host reason
   pub is : answer ≡ explained reason plain
@@ -150,7 +150,7 @@ pub record Halts (effects : Effects) (request : Request) (old new : HostState) :
   pub bytes : Option (List ℕ)
   pub host : HostState
   pub read : IsRead request old bytes host
-  pub halted : HaltsAt effects (shown_name request) bytes host new
+  pub halted : HaltsAt effects (shown_request request) bytes host new
 
 -- how a file that could not be read ends, if this is its result
 abbrev pub EndsUnread : Effects → List ℕ → Option Reason → HostState → HostState → (Verdict → Answer) → Result Verdict StreamFault → Type 0

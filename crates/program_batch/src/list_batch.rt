@@ -4,7 +4,7 @@ ghost use Rattle.script_text.specs.Input.{IsUnread, IsUnreadable, reading_of};
 ghost use Rattle.program_batch.specs.Answers.{KeepsQuiet};
 ghost use Rattle.program_batch.specs.Names.{requests_of};
 ghost use Rattle.program_batch.specs.Runs.{Runs, run_state_at};
-ghost use Rattle.program_batch.specs.Lists.{EndsList, HasComeTo, KeepsList, RunsStream, state_of, view_of};
+ghost use Rattle.program_batch.specs.Lists.{EndsList, HasComeTo, KeepsList, RunsStream, list_state_of, view_of};
 ghost use Rattle.program_console.specs.Console.{Delivers, SameWriters, StaysDelivered};
 
 use crate::batch::Batch;
@@ -131,7 +131,7 @@ impl<'l, 'h, 'c, 'o, 's, H: Host, C: FileTask, W: Write, F: Write> ListRun<
         ensures kept { KeepsList (view_of C.options C.effects H.state W.contents F.contents) self.old self.new }
         ensures delivered { OnOk result (Delivers self.old.outputs.now.output self.new.outputs.now.output) }
         ensures answered { RunsStream (C.effects (C.options self.old.task.now)) self.old.list.now.separator (R.remaining input.old.reader.now) (R.remaining input.new.reader.now) input.new.has_failed
-            (state_of (view_of C.options C.effects H.state W.contents F.contents) self.old) (state_of (view_of C.options C.effects H.state W.contents F.contents) self.new) result }
+            (list_state_of (view_of C.options C.effects H.state W.contents F.contents) self.old) (list_state_of (view_of C.options C.effects H.state W.contents F.contents) self.new) result }
     {
         let separator = self.list.separator;
         match read_parts(input, separator, self) {

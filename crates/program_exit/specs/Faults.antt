@@ -6,7 +6,7 @@ use Rattle.host_storage.specs.declared.host.HostFault.{HostFault}
 use Rattle.host_storage.specs.declared.host.HostFault.TheVariants as files
 use Rattle.d64_image.specs.declared.image.ImageFault.{ImageFault}
 use Rattle.d64_image.specs.declared.image.ImageFault.TheVariants as images
-use Rattle.d64_undo.specs.ResumeFault.{fault_number}
+use Rattle.d64_undo.specs.ResumeFault.{resume_fault_number}
 use Rattle.d64_undo.specs.declared.resume_fault.ResumeFault.{ResumeFault}
 use Rattle.d64_undo.specs.declared.resume_fault.ResumeFault.TheVariants as resumes
 use Rattle.script_run.specs.declared.runner.ShellFault.{ShellFault}
@@ -24,7 +24,7 @@ fault_of_file unreadable fault = unreadable
 -- the fault for the bytes of a session file, with the number of what is wrong with them
 abbrev pub fault_of_resume : ResumeFault → ProgramFault
 fault_of_resume (resumes.Memory error) = Memory
-fault_of_resume fault = NoSession (fault_number fault)
+fault_of_resume fault = NoSession (resume_fault_number fault)
 
 -- the fault for the bytes of an image file
 abbrev pub fault_of_image : ImageFault → ProgramFault
@@ -61,8 +61,8 @@ fault_digits (NoSession fault) = decimal fault
 fault_digits other = []
 
 -- the whole text of a fault
-unfoldable pub fault_text : ProgramFault → List ℕ
-fault_text fault = fault_begin fault ++ fault_digits fault
+unfoldable pub program_fault_text : ProgramFault → List ℕ
+program_fault_text fault = fault_begin fault ++ fault_digits fault
 
 -- the line with this text and a line feed
 unfoldable pub line_with : List ℕ → List ℕ
@@ -74,4 +74,4 @@ ReportsText text faults reported status = (status ≡ 2) × Writes faults report
 
 -- this fault was reported
 abbrev pub Reports : ProgramFault → Account → Account → ℕ → Type 0
-Reports fault faults reported status = ReportsText (fault_text fault) faults reported status
+Reports fault faults reported status = ReportsText (program_fault_text fault) faults reported status

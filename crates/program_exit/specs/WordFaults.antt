@@ -4,7 +4,7 @@ use Rattle.std.specs.Io.KnownBytes.{Appends, Keeps}
 use Rattle.script_text.specs.Output.{Account, AppendsPart, Writes}
 use Rattle.program_arguments.specs.Requested.{IsHelpOrVersion}
 use Rattle.program_arguments.specs.declared.jobs.JobFault.{JobFault}
-use Rattle.program_arguments.specs.FaultText.{text_of}
+use Rattle.program_arguments.specs.FaultText.{fault_text_of}
 use Rattle.program_exit.specs.declared.program_fault.ProgramFault.TheVariants.{Write, Memory}
 use Rattle.program_exit.specs.Faults.{ReportsText, Reports}
 
@@ -30,4 +30,4 @@ PrintsOrReports fault old new faults reported status =
 -- clap found it, the help is printed or the error reported
 abbrev pub ReportsNoJob : JobFault → Account → Account → Account → Account → ℕ → Type 0
 ReportsNoJob fault old new faults reported status =
-    MatchOption (text_of fault) (PrintsOrReports fault old new faults reported status) (λ text. (new ≡ old) × ReportsText text faults reported status)
+    MatchOption (fault_text_of fault) (PrintsOrReports fault old new faults reported status) (λ text. (new ≡ old) × ReportsText text faults reported status)

@@ -3,7 +3,7 @@ ghost use Rattle.std.specs.Prelude.{◌≡◌, ◌≤◌, ◌+◌, ◌++◌, Boo
 ghost use Rattle.arrayvec.specs.ArrayVec.{array_vec_len};
 ghost use Rattle.program_console.specs.Outside.{account_at};
 ghost use Rattle.script_text.specs.Output.{account_of};
-ghost use Rattle.program_exit.specs.Faults.{Reports, ReportsText, fault_of_file, fault_of_image, fault_of_resume, fault_of_run, fault_of_stream, fault_text, fault_begin, line_with};
+ghost use Rattle.program_exit.specs.Faults.{Reports, ReportsText, fault_of_file, fault_of_image, fault_of_resume, fault_of_run, fault_of_stream, program_fault_text, fault_begin, line_with};
 ghost use Rattle.program_exit.specs.declared.program_fault.ProgramFault.TheVariants.{Memory};
 
 use crate::exit_status::NOT_RUN;
@@ -70,9 +70,9 @@ impl ProgramFault {
     }
 
     /// Returns the line that reports the fault, with its line feed. It takes no memory.
-    #[tactic(auto, unfolding(crate::specs::Faults::fault_text))]
+    #[tactic(auto, unfolding(crate::specs::Faults::program_fault_text))]
     fn line(self) -> ArrayVec<u8, MAX_FAULT_LINE>
-        ensures { result.items ≡ line_with (fault_text self) }
+        ensures { result.items ≡ line_with (program_fault_text self) }
     {
         match self {
             ProgramFault::WrongLength(length) => {

@@ -1,6 +1,6 @@
 //! `DumpBuffer`: buffers in which one file after another is read as a dump, and its lists are made.
 ghost use Rattle.std.specs.Prelude.{◌≡◌, if◌then◌else◌, Some, None, OnOk, is_some, length};
-ghost use Rattle.d64_survey.specs.Dump.{wrong_length};
+ghost use Rattle.d64_survey.specs.Dump.{wrong_dump_length};
 ghost use Rattle.d64_g64.specs.DumpOf.{dump_of};
 
 use d64_g64::refill_from;
@@ -31,7 +31,7 @@ impl DumpBuffer {
     /// Replaces the dump by the one that these bytes are. If they are no dump, the error is
     /// `WrongLength`, and the dump is unchanged.
     pub fn refill(&mut self, bytes: &[u8]) -> Result<(), DumpFault>
-        ensures refused { wrong_length result ≡ (if is_some (dump_of bytes.now) then None else Some (length bytes.now)) }
+        ensures refused { wrong_dump_length result ≡ (if is_some (dump_of bytes.now) then None else Some (length bytes.now)) }
         ensures filled { OnOk result (dump_of bytes.now ≡ Some self.new.dump) }
     {
         refill_from(&mut self.dump, self.alloc, bytes)

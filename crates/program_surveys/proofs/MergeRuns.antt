@@ -5,8 +5,8 @@ use Rattle.std.proofs.lemmas.List.{drop_all}
 use Rattle.host_storage.specs.Files.{HostState}
 use Rattle.program_arguments.specs.declared.jobs.DiffForm.{DiffForm}
 use Rattle.cmd_diff.specs.Differences.{Contents}
-use Rattle.cmd_merge.specs.Setup.{SetupView}
-use Rattle.cmd_merge.specs.Reports.{ReadingsView, with_file}
+use Rattle.cmd_merge.specs.Setup.{MergeSetupView}
+use Rattle.cmd_merge.specs.Reports.{ReadingsView, with_read_file}
 use Rattle.cmd_merge.specs.Finishing.{MayHaveMade}
 use Rattle.program_surveys.specs.Comparisons.{IsReadAs}
 use Rattle.program_surveys.specs.Merges.{ReadsFiles, CameSoFar}
@@ -15,7 +15,7 @@ use Rattle.program_console.specs.declared.stream_fault.StreamFault.{StreamFault}
 
 -- of the files from a place on, one was read, and then the others
 pub files_left : {Z : Type 0} (form : DiffForm) (names : List (String Z)) (place : ℕ) (name : String Z) (contents : Contents) (old middle new : HostState) (begun between read : ReadingsView)
-    → place < length names → name ≡ slice_index_or names place name → IsReadAs (string_bytes name) old contents middle → between ≡ with_file form (string_bytes name) contents begun
+    → place < length names → name ≡ slice_index_or names place name → IsReadAs (string_bytes name) old contents middle → between ≡ with_read_file form (string_bytes name) contents begun
     → ReadsFiles form (map string_bytes (drop (place + 1) names)) middle between new read → ReadsFiles form (map string_bytes (drop place names)) old begun new read
 unfolding ReadsFiles
 files_left form names place name contents old middle new begun between read less is one added rest =
@@ -36,7 +36,7 @@ no_files_left form names place host readings past =
     subst (λ (xs : List _). ReadsFiles form (map string_bytes xs) host readings host readings) (sym (drop_all place names past)) (refl, refl)
 
 -- the files were read, and then memory ran out
-pub so_far : (setup : SetupView) (bytes : Option (List ℕ)) (old middle new : HostState) → middle.files ≡ old.files → MayHaveMade setup bytes middle new → CameSoFar setup old new
+pub so_far : (setup : MergeSetupView) (bytes : Option (List ℕ)) (old middle new : HostState) → middle.files ≡ old.files → MayHaveMade setup bytes middle new → CameSoFar setup old new
 so_far setup None old middle new files is = (middle, files, inl is)
 so_far setup (Some bytes) old middle new files is = elim is [ inl same ↦ (middle, files, inl same) | inr made ↦ (middle, files, inr (bytes, made.0, made.1)) ]
 

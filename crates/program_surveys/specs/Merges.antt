@@ -7,9 +7,9 @@ use Rattle.program_batch.specs.Answers.{Answer}
 use Rattle.program_batch.specs.Runs.{IsCut, IsReported, RunState}
 use Rattle.program_arguments.specs.declared.jobs.DiffForm.{DiffForm}
 use Rattle.cmd_diff.specs.Differences.{Contents}
-use Rattle.cmd_merge.specs.Setup.{SetupView}
-use Rattle.cmd_merge.specs.Reports.{ReadingsView, no_readings, with_file, present_answer}
-use Rattle.cmd_merge.specs.Finishing.{Finishes, IsMade}
+use Rattle.cmd_merge.specs.Setup.{MergeSetupView}
+use Rattle.cmd_merge.specs.Reports.{ReadingsView, no_readings, with_read_file, file_present_answer}
+use Rattle.cmd_merge.specs.Finishing.{Finishes, IsFileMade}
 use Rattle.program_surveys.specs.Comparisons.{IsReadAs}
 use Rattle.program_surveys.specs.JobEnds.{EndedRun}
 use Rattle.program_console.specs.declared.stream_fault.StreamFault.{StreamFault}
@@ -20,10 +20,10 @@ use Rattle.program_console.specs.Outside.{Outside}
 unfoldable pub ReadsFiles : DiffForm → List (List ℕ) → HostState → ReadingsView → HostState → ReadingsView → Type 0
 ReadsFiles form [] old begun new read = (new ≡ old) × (read ≡ begun)
 ReadsFiles form (name ∷ names) old begun new read =
-    (contents : Contents) × (middle : HostState) × IsReadAs name old contents middle × ReadsFiles form names middle (with_file form name contents begun) new read
+    (contents : Contents) × (middle : HostState) × IsReadAs name old contents middle × ReadsFiles form names middle (with_read_file form name contents begun) new read
 
 -- all files were read, and the merge ended with this result
-pub record MergesRead (setup : SetupView) (old : HostState) (answer : Answer) (new : HostState) : Type 0 where
+pub record MergesRead (setup : MergeSetupView) (old : HostState) (answer : Answer) (new : HostState) : Type 0 where
   pub middle : HostState
   pub readings : ReadingsView
   pub read : ReadsFiles setup.form setup.names old no_readings middle readings
@@ -31,25 +31,25 @@ pub record MergesRead (setup : SetupView) (old : HostState) (answer : Answer) (n
 
 -- the file that is to be made was looked for: it was there, and nothing else was done; or it was
 -- not there, and the files were merged
-abbrev pub AnswersMerge : SetupView → HostState → Answer → HostState → Type 0
+abbrev pub AnswersMerge : MergeSetupView → HostState → Answer → HostState → Type 0
 AnswersMerge setup old answer new =
-    (there : Bool) × Looks old.files setup.out there × MatchBool there ((new ≡ old) × (answer ≡ present_answer setup)) (MergesRead setup old answer new)
+    (there : Bool) × Looks old.files setup.out there × MatchBool there ((new ≡ old) × (answer ≡ file_present_answer setup)) (MergesRead setup old answer new)
 
 -- how far a merge came if memory ran out: no file was changed, except that the one to be made may
 -- have been made, whole
-abbrev pub CameSoFar : SetupView → HostState → HostState → Type 0
+abbrev pub CameSoFar : MergeSetupView → HostState → HostState → Type 0
 CameSoFar setup old new =
     (middle : HostState) × (middle.files ≡ old.files)
-    × ((new ≡ middle) ⊎ ((bytes : List ℕ) × (result : Result (Unit {0}) FolderFault) × IsMade setup.out bytes middle result new))
+    × ((new ≡ middle) ⊎ ((bytes : List ℕ) × (result : Result (Unit {0}) FolderFault) × IsFileMade setup.out bytes middle result new))
 
 -- how a merge ends: its result was written, or the output failed while it was written, or memory
 -- ran out and nothing was written
-abbrev pub Merges : {A : Type 0} → SetupView → RunState → RunState → Result A StreamFault → Type 0
+abbrev pub Merges : {A : Type 0} → MergeSetupView → RunState → RunState → Result A StreamFault → Type 0
 Merges setup first last (Ok done) = (answer : Answer) × AnswersMerge setup first.host answer last.host × IsReported answer first.reported last.reported
 Merges setup first last (Err Read) = ⊥
 Merges setup first last (Err Write) = (answer : Answer) × AnswersMerge setup first.host answer last.host × IsCut answer first.reported last.reported
 Merges setup first last (Err Memory) = CameSoFar setup first.host last.host × (last.reported ≡ first.reported)
 
 -- a merge has ended, which read nothing of the input
-abbrev pub EndedMerge : SetupView → Outside → Outside → ℕ → Type 0
+abbrev pub EndedMerge : MergeSetupView → Outside → Outside → ℕ → Type 0
 EndedMerge setup old new status = EndedRun (Merges setup) old new status

@@ -19,9 +19,9 @@ separator_byte LineFeed = 10
 separator_byte Nul = 0
 
 -- the files that the arguments give or list
-abbrev pub files_of : Names → SurveyFiles
-files_of (Given names) = Named (map string_bytes names.items)
-files_of (Listed list separator) = ListedIn (string_bytes list) (separator_byte separator)
+abbrev pub survey_files_of : Names → SurveyFiles
+survey_files_of (Given names) = Named (map string_bytes names.items)
+survey_files_of (Listed list separator) = ListedIn (string_bytes list) (separator_byte separator)
 
 -- the files of names that the code borrows
 abbrev pub files_in : FileNames → SurveyFiles

@@ -71,6 +71,6 @@ pub record Surveys (effects : Effects) (heading : List ℕ) (files : SurveyFiles
   pub goes_on : GoesOn effects files reader left has_failed begun (run_state first.host (reported_of output first.reported.error first.reported.worst)) last ended
 
 -- the result of a survey that ended with this: the worst verdict, or the fault
-abbrev pub Says : Verdict → Result (Unit {0}) StreamFault → Result Verdict StreamFault → Type 0
-Says worst (Ok done) said = said ≡ Ok worst
-Says worst (Err fault) said = said ≡ Err fault
+abbrev pub EndsSurveyWith : Verdict → Result (Unit {0}) StreamFault → Result Verdict StreamFault → Type 0
+EndsSurveyWith worst (Ok done) said = said ≡ Ok worst
+EndsSurveyWith worst (Err fault) said = said ≡ Err fault

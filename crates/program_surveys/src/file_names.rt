@@ -1,6 +1,6 @@
 //! The names of the files of a survey.
 ghost use Rattle.std.specs.Prelude.{◌≡◌};
-ghost use Rattle.program_surveys.specs.SurveyFiles.{files_in, files_of, list_name, separator_byte};
+ghost use Rattle.program_surveys.specs.SurveyFiles.{files_in, survey_files_of, list_name, separator_byte};
 
 use program_arguments::{Names, Separator};
 
@@ -17,7 +17,7 @@ pub enum FileNames<'n> {
 impl<'n> FileNames<'n> {
     /// Returns the names that the arguments give or list.
     pub fn of(names: &'n Names) -> FileNames<'n>
-        ensures { files_in result ≡ files_of names.now }
+        ensures { files_in result ≡ survey_files_of names.now }
     {
         match names {
             Names::Given(names) => FileNames::Given(names.as_slice()),

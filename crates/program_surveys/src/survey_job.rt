@@ -9,7 +9,7 @@ ghost use Rattle.program_surveys.specs.JobEnds.{EndedSurvey, IsListReason, Repor
 ghost use Rattle.program_console.specs.Console.{Delivers, IsDelivered, IsFresh, SameStreams, SameWriters};
 ghost use Rattle.program_console.specs.Outside.{account_at, outside_at};
 ghost use Rattle.program_surveys.specs.SurveyFiles.{files_in, list_name};
-ghost use Rattle.program_surveys.specs.Surveys.{IsOpened, RunsListFile, Says, Surveys, fault_of_list};
+ghost use Rattle.program_surveys.specs.Surveys.{IsOpened, RunsListFile, EndsSurveyWith, Surveys, fault_of_list};
 ghost use Rattle.program_console.specs.declared.stream_fault.StreamFault.{StreamFault};
 ghost use Rattle.program_batch.specs.declared.report.Verdict.{Verdict};
 
@@ -157,7 +157,7 @@ impl<'n> SurveyJob<'n> {
         ensures silent { KeepsQuiet (C.effects (C.options task.old)) → result ≡ Ok Verdict.Clean → console.new.outputs.faults ≡ console.old.outputs.faults }
         ensures surveyed { (worst : Verdict) × (ended : Result (Unit {0}) StreamFault) × Surveys (C.effects (C.options task.old)) (C.heading task.old) (files_in self.now.names) (R.remaining console.old.input.reader.now) (R.remaining console.new.input.reader.now) console.new.input.has_failed
             (run_state_at W.contents F.contents console.old.outputs (H.state host.old) Verdict.Clean)
-            (run_state_at W.contents F.contents console.new.outputs (H.state host.new) worst) ended × Says worst ended result }
+            (run_state_at W.contents F.contents console.new.outputs (H.state host.new) worst) ended × EndsSurveyWith worst ended result }
     {
         let mut batch = Batch::new(self.alloc);
         batch.begin(task, &mut console.outputs)?;

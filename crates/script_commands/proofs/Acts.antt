@@ -5,21 +5,21 @@ use Rattle.d64_dos.specs.declared.refusal.Refusal.{Refusal}
 use Rattle.d64_dos.specs.declared.refusal.Refusal.TheVariants.{NotClosed, NotFound, Exists, WrongType, Directory, Lost, DiskFull, Memory}
 use Rattle.script_text.specs.declared.status.Status.{Status}
 use Rattle.script_text.specs.declared.status.Status.TheVariants.{OutOfMemory}
-use Rattle.script_commands.specs.Act.{Act, Give, Refuse, Then, ◌>>=◌, Call, Gives, Does, Ending, LineAnswer, World, plain_answer}
+use Rattle.script_commands.specs.Act.{Act, Give, Refuse, Then, ◌>>=◌, Call, CallGives, Does, Ending, LineAnswer, World, plain_answer}
 use Rattle.host_storage.specs.Files.{HostState}
 use Rattle.d64_undo.specs.History.{History}
 use Rattle.script_commands.specs.Line.{refuse_by, status_of_refusal}
 
 -- a call gave bytes, and what follows them was done
 pub Does-given : (call : Call) (next : List ℕ → Act Ending) (bytes : List ℕ) (old new : HostState) (history : History) (answer : LineAnswer) (after : World)
-    → Gives call old (Ok bytes) new → Does (next bytes) (record { host = new; history = history }) answer after
+    → CallGives call old (Ok bytes) new → Does (next bytes) (record { host = new; history = history }) answer after
     → Does (Then call next) (record { host = old; history = history }) answer after
 unfolding Does
 Does-given call next bytes old new history answer after gives done = inl (Ok bytes, new, gives, done)
 
 -- a call was refused
 pub Does-refused : (call : Call) (next : List ℕ → Act Ending) (status : Status) (old new : HostState) (history : History)
-    → Gives call old (Err status) new
+    → CallGives call old (Err status) new
     → Does (Then call next) (record { host = old; history = history }) (plain_answer status) (record { host = new; history = history })
 unfolding Does
 Does-refused call next status old new history gives = inl (Err status, new, gives, (refl, refl))

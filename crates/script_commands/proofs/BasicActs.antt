@@ -3,7 +3,7 @@ use Rattle.std.proofs.Common.{ℕ, ◌≤◌, ◌<◌, ◌^◌, ◌⊎◌, List,
 use Rattle.std.specs.Prelude.{MatchOption, IfSome}
 use Rattle.host_storage.specs.Files.{Files}
 use Rattle.host_storage.specs.Host.{Fetches}
-use Rattle.cbm_text.specs.BasicText.{IsFirstFault, IsOfMemory, TellsLine, fault_line}
+use Rattle.cbm_text.specs.BasicText.{IsFirstBasicFault, IsBasicOutOfMemory, TellsLine, basic_fault_line}
 use Rattle.cbm_text.specs.declared.fault.BasicFault.{BasicFault}
 use Rattle.cbm_text.specs.declared.fault.BasicFault.TheVariants.{NoNumber, NumberTooLarge, Text, TokenByte, ZeroByte, TooLong, Memory}
 use Rattle.d64_undo.specs.History.{History}
@@ -26,18 +26,18 @@ small (Some line) none lines size short tells = let (_, _, within) = tells in om
 
 -- a fault of a text that is no longer than a host file has a line whose number fits
 pub fault_line-fits : (text : List ℕ) (fault : BasicFault) → length text ≤ host_file_limit → TellsLine text fault
-    → IfSome (fault_line fault) (λ line. line < 2 ^ 32)
-fault_line-fits text fault short tells = small (fault_line fault) _ _ (length text) short tells
+    → IfSome (basic_fault_line fault) (λ line. line < 2 ^ 32)
+fault_line-fits text fault short tells = small (basic_fault_line fault) _ _ (length text) short tells
 
 -- a text was refused for its first fault
 refused : (text : List ℕ) (next : List ℕ → Act Ending) (fault : BasicFault) (host : HostState) (history : History)
-    → IsFirstFault program_start text fault
+    → IsFirstBasicFault program_start text fault
     → Does (Then (Crunch text) next) (record { host = host; history = history }) (plain_answer (status_of_basic fault)) (record { host = host; history = history })
 refused text next fault host history first = Does-refused (Crunch text) next (status_of_basic fault) host host history ((fault, first, refl), refl)
 
 -- a text was refused for its first fault, or since memory is out
 pub Does-uncrunched : (text : List ℕ) (next : List ℕ → Act Ending) (fault : BasicFault) (host : HostState) (history : History)
-    → IsOfMemory fault ⊎ IsFirstFault program_start text fault
+    → IsBasicOutOfMemory fault ⊎ IsFirstBasicFault program_start text fault
     → Does (Then (Crunch text) next) (record { host = host; history = history }) (plain_answer (status_of_basic fault)) (record { host = host; history = history })
 Does-uncrunched text next fault host history (inr first) = refused text next fault host history first
 Does-uncrunched text next (NoNumber line) host history (inl memory) = absurd memory

@@ -4,7 +4,7 @@ use Rattle.std.specs.Prelude.{codes}
 use Rattle.std.specs.List.{flat_map, onto_first}
 use Rattle.std.proofs.lemmas.List.{append_assoc, append-nil}
 use Rattle.petscii.specs.Spelling.{spell, spelling}
-use Rattle.script_commands.specs.FileText.{lines_of_file, shown_line, file_text}
+use Rattle.script_commands.specs.FileText.{lines_of_file, shown_line, typed_text}
 
 -- what is shown of the rest of a file, after a line may have begun
 unfoldable pub text_after : Bool → List ℕ → List ℕ
@@ -15,8 +15,8 @@ text_after begun rest = flat_map shown_line (lines_of_file rest)
 abbrev pub shown_byte : ℕ → List ℕ
 shown_byte byte = cond (byte == 13) (codes "\n") (spell byte)
 
-pub text_after-begin : (content : List ℕ) → text_after false content ≡ file_text content
-unfolding text_after file_text
+pub text_after-begin : (content : List ℕ) → text_after false content ≡ typed_text content
+unfolding text_after typed_text
 text_after-begin content = refl
 
 -- a byte that begins a line
@@ -65,8 +65,8 @@ spelling-one byte = append-nil (spell byte)
 
 -- a text to which what is shown of a byte was added, and what comes after it
 pub one_more : (begun : Bool) (old new content : List ℕ) (place byte : ℕ) → drop place content ≡ byte ∷ drop (place + 1) content
-    → new ≡ old ++ shown_byte byte → old ++ text_after begun (drop place content) ≡ file_text content
-    → new ++ text_after (not (byte == 13)) (drop (place + 1) content) ≡ file_text content
+    → new ≡ old ++ shown_byte byte → old ++ text_after begun (drop place content) ≡ typed_text content
+    → new ++ text_after (not (byte == 13)) (drop (place + 1) content) ≡ typed_text content
 one_more begun old new content place byte here added is =
     let rest : List ℕ = text_after (not (byte == 13)) (drop (place + 1) content) in
     ap (λ (text : List ℕ). text ++ rest) added
@@ -75,8 +75,8 @@ one_more begun old new content place byte here added is =
     ∙ is
 
 -- what is shown once nothing is left
-pub at_end : (begun : Bool) (text content : List ℕ) (place : ℕ) → drop place content ≡ [] → text ++ text_after begun (drop place content) ≡ file_text content
-    → text ++ cond begun (codes "\n") [] ≡ file_text content
+pub at_end : (begun : Bool) (text content : List ℕ) (place : ℕ) → drop place content ≡ [] → text ++ text_after begun (drop place content) ≡ typed_text content
+    → text ++ cond begun (codes "\n") [] ≡ typed_text content
 unfolding text_after
 at_end true text content place none is = sym (ap (λ (rest : List ℕ). text ++ text_after true rest) none) ∙ is
 at_end false text content place none is = sym (ap (λ (rest : List ℕ). text ++ text_after false rest) none) ∙ is

@@ -4,7 +4,7 @@ use Rattle.std.proofs.lemmas.List.{take_more, drop_more, take-append-drop, lengt
 use Rattle.std.proofs.lemmas.List.Elements.{AllZip-push}
 use Rattle.std.specs.List.{AllZip}
 use Rattle.petscii.specs.TextForm.{IsTextOf, HasOneReading}
-use Rattle.petscii.specs.TextFault.{IsOfMemory, IsFirstFault, HasNoFaultIfRead}
+use Rattle.petscii.specs.TextFault.{IsTextOutOfMemory, IsFirstTextFault, HasNoFaultIfRead}
 use Rattle.petscii.specs.declared.fault.TextFault.{TextFault}
 use Rattle.petscii.specs.declared.fault.TextFault.TheVariants.{UnknownName, OpenBrace, BadByte, Memory}
 use Rattle.script_text.specs.declared.status.Status.{Status}
@@ -17,12 +17,12 @@ use Rattle.script_commands.specs.Arguments.{status_of_text}
 use Rattle.script_commands.specs.ArgumentTexts.{Reads, ReadsEach}
 
 -- an argument that has a fault stands for no bytes
-first_fault : (word : List ℕ) (fault : TextFault) → HasNoFaultIfRead word → IsFirstFault word fault
+first_fault : (word : List ℕ) (fault : TextFault) → HasNoFaultIfRead word → IsFirstTextFault word fault
     → (bytes : List ℕ) → IsSpelled (λ b. true) word bytes → ⊥
 first_fault word fault none first bytes spelled = none bytes fault spelled.0 first
 
 -- a fault of the argument, as the result of reading it
-pub Reads-fault : (word : List ℕ) (fault : TextFault) → HasNoFaultIfRead word → IsOfMemory fault ⊎ IsFirstFault word fault
+pub Reads-fault : (word : List ℕ) (fault : TextFault) → HasNoFaultIfRead word → IsTextOutOfMemory fault ⊎ IsFirstTextFault word fault
     → Reads (λ bytes. true) word (Err (status_of_text fault))
 Reads-fault word (UnknownName place) none (inl memory) = absurd memory
 Reads-fault word (UnknownName place) none (inr first) = inl (refl, first_fault word (UnknownName place) none first)

@@ -118,21 +118,21 @@ status_of_fault (Memory error) = OutOfMemory
 status_of_fault fault = HostFile (fault_number fault)
 
 -- what the host gave, or the status of its fault
-abbrev pub given_by : {A : Type 0} → (A → Bytes) → Result A HostFault → Result Bytes Status
-given_by bytes (Ok value) = Ok (bytes value)
-given_by bytes (Err fault) = Err (status_of_fault fault)
+abbrev pub bytes_given : {A : Type 0} → (A → Bytes) → Result A HostFault → Result Bytes Status
+bytes_given bytes (Ok value) = Ok (bytes value)
+bytes_given bytes (Err fault) = Err (status_of_fault fault)
 
 -- what a call can give, and what the host exposes then
-abbrev pub Gives : Call → HostState → Result Bytes Status → HostState → Type 0
-Gives (Text test word) old (Ok bytes) new = IsSpelled test word bytes × (new ≡ old)
-Gives (Text test word) old (Err status) new = (status ≡ BadName) × ((bytes : Bytes) → IsSpelled test word bytes → ⊥) × (new ≡ old)
-Gives (Fetch name limit) old given new =
-    (fetched : Result Bytes HostFault) × FetchesFile old name limit fetched new × (given ≡ given_by (λ bytes. bytes) fetched)
-Gives (Store name bytes) old given new =
-    (stored : Result (Unit {0}) HostFault) × StoresFile old name bytes stored new × (given ≡ given_by (λ _. []) stored)
-Gives (Crunch text) old given new = Crunches text given × (new ≡ old)
-Gives (Expand file) old given new = Expands file given × (new ≡ old)
-Gives Room old given new = (given ≡ Ok []) × (new ≡ old)
+abbrev pub CallGives : Call → HostState → Result Bytes Status → HostState → Type 0
+CallGives (Text test word) old (Ok bytes) new = IsSpelled test word bytes × (new ≡ old)
+CallGives (Text test word) old (Err status) new = (status ≡ BadName) × ((bytes : Bytes) → IsSpelled test word bytes → ⊥) × (new ≡ old)
+CallGives (Fetch name limit) old given new =
+    (fetched : Result Bytes HostFault) × FetchesFile old name limit fetched new × (given ≡ bytes_given (λ bytes. bytes) fetched)
+CallGives (Store name bytes) old given new =
+    (stored : Result (Unit {0}) HostFault) × StoresFile old name bytes stored new × (given ≡ bytes_given (λ _. []) stored)
+CallGives (Crunch text) old given new = Crunches text given × (new ≡ old)
+CallGives (Expand file) old given new = Expands file given × (new ≡ old)
+CallGives Room old given new = (given ≡ Ok []) × (new ≡ old)
 
 -- an act of a line is done: from a world, with a response, to a world. Before each call memory may
 -- be out
@@ -140,7 +140,7 @@ unfoldable pub Does : Act Ending → World → LineAnswer → World → Type 0
 Does (Give ending) world answer after = (answer ≡ ending.answer) × (after ≡ record world { history = ending.history })
 Does (Refuse status) world answer after = (answer ≡ plain_answer status) × (after ≡ world)
 Does (Then call next) world answer after =
-    ((given : Result Bytes Status) × (host : HostState) × Gives call world.host given host
+    ((given : Result Bytes Status) × (host : HostState) × CallGives call world.host given host
     × MatchResult given
     (λ bytes. Does (next bytes) (record world { host = host }) answer after)
     (λ status. (answer ≡ plain_answer status) × (after ≡ record world { host = host })))

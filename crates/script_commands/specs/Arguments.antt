@@ -24,14 +24,14 @@ unfoldable pub number_in : Bytes → Result ℕ Status
 number_in word = ok_or (number_of word) SyntaxError
 
 -- the block of a track and a sector, if both are numbers and the image has that block
-abbrev pub block_at : Disk → Result ℕ Status → Result ℕ Status → Result ℕ Status
-block_at image (Err status) sector = Err status
-block_at image (Ok track) (Err status) = Err status
-block_at image (Ok track) (Ok sector) = ok_or (chains.block_in image track sector) (IllegalBlock track sector)
+abbrev pub block_by : Disk → Result ℕ Status → Result ℕ Status → Result ℕ Status
+block_by image (Err status) sector = Err status
+block_by image (Ok track) (Err status) = Err status
+block_by image (Ok track) (Ok sector) = ok_or (chains.block_in image track sector) (IllegalBlock track sector)
 
 -- the block of an image at a track and a sector, each in an argument
-unfoldable pub block_in : Disk → Bytes → Bytes → Result ℕ Status
-block_in image track sector = block_at image (number_in track) (number_in sector)
+unfoldable pub block_argument : Disk → Bytes → Bytes → Result ℕ Status
+block_argument image track sector = block_by image (number_in track) (number_in sector)
 
 -- the status of a fault of an argument in text form
 abbrev pub status_of_text : TextFault → Status
@@ -47,12 +47,12 @@ abbrev pub can_be_id : Bytes → Bool
 can_be_id bytes = (length bytes == 2) && not (holds_any_of forbidden_in_names bytes)
 
 -- the letters that stand for kinds
-abbrev pub kind_letters : List (Bytes × Kind)
-kind_letters = (codes "p", Prg) ∷ (codes "s", Seq) ∷ (codes "u", Usr) ∷ (codes "l", Rel) ∷ []
+abbrev pub letters_of_kinds : List (Bytes × Kind)
+letters_of_kinds = (codes "p", Prg) ∷ (codes "s", Seq) ∷ (codes "u", Usr) ∷ (codes "l", Rel) ∷ []
 
 -- the kind that a letter stands for
 abbrev pub kind_of_letter : Bytes → Option Kind
-kind_of_letter word = option_map (λ row. row.1) (find (λ row. bytes_eq word row.0) kind_letters)
+kind_of_letter word = option_map (λ row. row.1) (find (λ row. bytes_eq word row.0) letters_of_kinds)
 
 -- a name and a kind of the two parts of an argument: a name, and the letter of a kind
 abbrev pub with_kind : Bytes → Option (Bytes × Bytes) → Result (Bytes × Kind) Status

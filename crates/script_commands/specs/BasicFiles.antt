@@ -18,7 +18,7 @@ program_start = 0x0801
 
 -- the status of a fault of a BASIC text: its number and its line
 abbrev pub status_of_basic : BasicFault → Status
-status_of_basic fault = option_map_or (λ line. BasicText (texts.fault_number fault) line) (texts.fault_line fault) OutOfMemory
+status_of_basic fault = option_map_or (λ line. BasicText (texts.basic_fault_number fault) line) (texts.basic_fault_line fault) OutOfMemory
 
 -- the status of a fault of a program
 abbrev pub status_of_listing : ListFault → Status
@@ -28,7 +28,7 @@ status_of_listing fault = NotBasic (list_fault_number fault)
 -- a BASIC text gives its program file, or is refused for its first fault
 abbrev pub Crunches : Bytes → Result Bytes Status → Type 0
 Crunches text (Ok file) = texts.IsFileOf program_start text file
-Crunches text (Err status) = (fault : BasicFault) × texts.IsFirstFault program_start text fault × (status ≡ status_of_basic fault)
+Crunches text (Err status) = (fault : BasicFault) × texts.IsFirstBasicFault program_start text fault × (status ≡ status_of_basic fault)
 
 -- a program file gives its text, or is refused for its fault
 abbrev pub Expands : Bytes → Result Bytes Status → Type 0

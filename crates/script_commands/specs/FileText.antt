@@ -16,5 +16,5 @@ abbrev pub shown_line : Bytes → Bytes
 shown_line line = spelling line ++ codes "\n"
 
 -- the text of a file: its lines
-unfoldable pub file_text : Bytes → Bytes
-file_text content = flat_map shown_line (lines_of_file content)
+unfoldable pub typed_text : Bytes → Bytes
+typed_text content = flat_map shown_line (lines_of_file content)

@@ -16,10 +16,10 @@ abbrev pub found_content : Disk → Bytes → Bytes
 found_content image pattern = option_map_or (content_at image) (first_named pattern (slots image)) []
 
 -- `/`
-abbrev pub slash : ℕ
-slash = 47
+abbrev pub path_separator : ℕ
+path_separator = 47
 
 -- whether a text can name a host file: it is not empty, neither `.` nor `..`, and without a `/`
-unfoldable pub is_file_name : Bytes → Bool
-is_file_name text =
-    nat_lt 0 (length text) && not (bytes_eq text (codes ".")) && not (bytes_eq text (codes "..")) && not (list_any (λ byte. byte == slash) text)
+unfoldable pub can_name_file : Bytes → Bool
+can_name_file text =
+    nat_lt 0 (length text) && not (bytes_eq text (codes ".")) && not (bytes_eq text (codes "..")) && not (list_any (λ byte. byte == path_separator) text)

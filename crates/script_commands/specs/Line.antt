@@ -10,14 +10,14 @@ use Rattle.d64_undo.specs.SessionFile.{file_of}
 use Rattle.d64_dos.specs.Command.{image_after, reply_to, refusal_of}
 use Rattle.d64_dos.specs.Listing.{listing_of}
 use Rattle.d64_dos.specs.Reading.{directory_refusal, read_refusal}
-use Rattle.d64_files.specs.Directory.{number_of}
+use Rattle.d64_files.specs.Directory.{condition_number}
 use Rattle.d64_files.specs.Pattern.{is_pattern}
 use Rattle.d64_files.specs.declared.kind.Kind.TheVariants.{Prg}
-use Rattle.script_text.specs.Words.{words_of}
+use Rattle.script_text.specs.Words.{words_of_line}
 use Rattle.petscii.specs.Spelling.{spelling}
-use Rattle.script_commands.specs.Arguments.{host_in, block_in, at_comma, can_be_id, name_word, name_and_kind_in, name_and_kind_of}
-use Rattle.script_commands.specs.FoundFile.{found_name, found_content, is_file_name}
-use Rattle.script_commands.specs.FileText.{file_text}
+use Rattle.script_commands.specs.Arguments.{host_in, block_argument, at_comma, can_be_id, name_word, name_and_kind_in, name_and_kind_of}
+use Rattle.script_commands.specs.FoundFile.{found_name, found_content, can_name_file}
+use Rattle.script_commands.specs.FileText.{typed_text}
 use Rattle.script_commands.specs.HistoryText.{history_text}
 use Rattle.script_commands.specs.ListingText.{listing_text}
 use Rattle.script_text.specs.RawLines.{text_of, is_too_long, is_skipped}
@@ -39,7 +39,7 @@ status_of_refusal refusals.NotClosed = WriteFileOpen
 status_of_refusal refusals.NotFound = FileNotFound
 status_of_refusal refusals.Exists = FileExists
 status_of_refusal refusals.WrongType = FileTypeMismatch
-status_of_refusal (refusals.Directory fault) = DirectoryError (number_of fault)
+status_of_refusal (refusals.Directory fault) = DirectoryError (condition_number fault)
 status_of_refusal refusals.Lost = FileLost
 status_of_refusal refusals.DiskFull = DiskFull
 status_of_refusal refusals.Memory = OutOfMemory
@@ -78,14 +78,14 @@ run history change = do
 -- `block`: shows a block
 abbrev pub block_act : History → Bytes × Bytes → Act Ending
 block_act history (track, sector) = do
-  block ← value_or_refusal (block_in (present_image history) track sector)
+  block ← value_or_refusal (block_argument (present_image history) track sector)
   show (dump (sector_at (present_image history) block)) history
 
 -- `bread`: stores a block in a host file
 abbrev pub block_read_act : History → Bytes × (Bytes × Bytes) → Act Ending
 block_read_act history (host, (track, sector)) = do
   name ← value_or_refusal (host_in host)
-  block ← value_or_refusal (block_in (present_image history) track sector)
+  block ← value_or_refusal (block_argument (present_image history) track sector)
   put history name (sector_at (present_image history) block)
 
 -- the most bytes that a command accepts of a host file
@@ -102,7 +102,7 @@ write_one_block history block bytes = do
 abbrev pub block_write_act : History → Bytes × (Bytes × Bytes) → Act Ending
 block_write_act history (host, (track, sector)) = do
   name ← value_or_refusal (host_in host)
-  block ← value_or_refusal (block_in (present_image history) track sector)
+  block ← value_or_refusal (block_argument (present_image history) track sector)
   bytes ← ask (Fetch name host_file_limit)
   write_one_block history block bytes
 
@@ -191,7 +191,7 @@ abbrev pub read_to : History → Bytes → Option Bytes → Act Ending
 read_to history pattern None = do
   refuse_by (read_refusal (present_image history) pattern)
   ask Room
-  need (is_file_name (spelling (found_name (present_image history) pattern))) BadName
+  need (can_name_file (spelling (found_name (present_image history) pattern))) BadName
   put history (spelling (found_name (present_image history) pattern)) (found_content (present_image history) pattern)
 read_to history pattern (Some host) = do
   name ← value_or_refusal (host_in host)
@@ -230,7 +230,7 @@ abbrev pub show_file : History → Bytes → Act Ending
 show_file history pattern = do
   refuse_by (read_refusal (present_image history) pattern)
   ask Room
-  show (file_text (found_content (present_image history) pattern)) history
+  show (typed_text (found_content (present_image history) pattern)) history
 
 -- `type`: shows a text of the disk
 abbrev pub type_act : History → Bytes → Act Ending
@@ -332,7 +332,7 @@ act_of_words home history (first ∷ words) = act_in (commands home history word
 -- the act of the text of a line
 abbrev pub act_of_text : Bytes → History → Bytes → Act Ending
 act_of_text home history line = do
-  words ← value_or_refusal (ok_or (words_of line) SyntaxError)
+  words ← value_or_refusal (ok_or (words_of_line line) SyntaxError)
   act_of_words home history words
 
 -- the act of a line of the script; None if it is skipped

@@ -13,12 +13,12 @@ abbrev pub padded_text : ℕ → Bytes → Bytes
 padded_text places text = text ++ replicate (places - length text) 32
 
 -- the three letters of a kind
-abbrev pub kind_text : Kind → Bytes
-kind_text Del = codes "del"
-kind_text Seq = codes "seq"
-kind_text Prg = codes "prg"
-kind_text Usr = codes "usr"
-kind_text Rel = codes "rel"
+abbrev pub listed_kind_text : Kind → Bytes
+listed_kind_text Del = codes "del"
+listed_kind_text Seq = codes "seq"
+listed_kind_text Prg = codes "prg"
+listed_kind_text Usr = codes "usr"
+listed_kind_text Rel = codes "rel"
 
 -- the first line: the disk's name, its id and its DOS version
 unfoldable pub header_line : ListingView → Bytes
@@ -30,7 +30,7 @@ header_line listing =
 unfoldable pub row_line : RowView → Bytes
 row_line row =
     padded_text 5 (decimal row.blocks) ++ codes " " ++ padded_text 18 (codes "\"" ++ spelling row.name ++ codes "\"")
-    ++ (if row.closed then codes " " else codes "*") ++ kind_text row.kind ++ (if row.locked then codes "<" else []) ++ codes "\n"
+    ++ (if row.closed then codes " " else codes "*") ++ listed_kind_text row.kind ++ (if row.locked then codes "<" else []) ++ codes "\n"
 
 -- the last line: the number of free blocks
 unfoldable pub free_line : ListingView → Bytes

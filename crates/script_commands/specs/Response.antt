@@ -22,13 +22,13 @@ abbrev pub shown_answer : Disk → Response → LineAnswer
 shown_answer image response = record { output = output_bytes image response.output; status = response.status; closes = response.closes }
 
 -- the response to a line: that of an accepted one, or the status that refuses it, with no output
-abbrev pub answer_of : Disk → Result Response Status → LineAnswer
-answer_of image (Ok response) = shown_answer image response
-answer_of image (Err status) = plain_answer status
+abbrev pub line_answer : Disk → Result Response Status → LineAnswer
+line_answer image (Ok response) = shown_answer image response
+line_answer image (Err status) = plain_answer status
 
 -- an act is done with a response, by a host and a session: their states before and after
 abbrev pub Responds : Act Ending → HostState → History → Result Response Status → HostState → History → Type 0
-Responds act old_host old result new_host new = Does act (world_of old_host old) (answer_of (present_image new) result) (world_of new_host new)
+Responds act old_host old result new_host new = Does act (world_of old_host old) (line_answer (present_image new) result) (world_of new_host new)
 
 -- an act is done with a response by the session alone, whatever the host is
 abbrev pub RespondsAlone : Act Ending → History → Result Response Status → History → Type 0

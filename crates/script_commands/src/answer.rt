@@ -2,7 +2,7 @@
 #![tactic(auto, unfolding(crate::specs::Act::Does, crate::specs::Line::act_of_line))]
 
 ghost use Rattle.std.specs.Prelude.{◌≡◌, ◌≤◌, ℕ, List, All, map, length, MatchOption};
-ghost use Rattle.script_text.specs.HeldLine.{Says};
+ghost use Rattle.script_text.specs.HeldLine.{HoldsText};
 ghost use Rattle.script_text.specs.Words.{IsPrintable};
 ghost use Rattle.d64_undo.specs.History.{present_image};
 ghost use Rattle.script_commands.specs.Act.{world_of};
@@ -38,7 +38,7 @@ pub fn answer_line<H: Host>(
     session: &mut Session,
     line: &HeldLine,
 ) -> Option<Response>
-    ensures { (raw : List ℕ) → Says line.now raw → MatchOption result
+    ensures { (raw : List ℕ) → HoldsText line.now raw → MatchOption result
         (IsSkipped home.now session.old raw
         (world_of (H.state host.old) session.old)
         (world_of (H.state host.new) session.new))

@@ -1,8 +1,8 @@
 //! The values of the arguments of a line.
-#![tactic(auto, unfolding(crate::specs::Arguments::host_in, crate::specs::Arguments::number_in, crate::specs::Arguments::block_in, crate::specs::Arguments::at_comma, crate::specs::Arguments::after_slash))]
+#![tactic(auto, unfolding(crate::specs::Arguments::host_in, crate::specs::Arguments::number_in, crate::specs::Arguments::block_argument, crate::specs::Arguments::at_comma, crate::specs::Arguments::after_slash))]
 
 ghost use Rattle.std.specs.Prelude.{◌≡◌, ◌<◌, IfOk, Result, ◌==◌, true, length, map, option_map, position};
-ghost use Rattle.script_commands.specs.Arguments.{host_in, number_in, block_in, can_be_id, at_comma, kind_of_letter, name_and_kind_in, after_slash, name_word, name_and_kind_of};
+ghost use Rattle.script_commands.specs.Arguments.{host_in, number_in, block_argument, can_be_id, at_comma, kind_of_letter, name_and_kind_in, after_slash, name_word, name_and_kind_of};
 ghost use Rattle.script_commands.specs.ArgumentTexts.{texts, name_and_kind, items, Reads, ReadsEach};
 ghost use Rattle.petscii.specs.TextForm.{HasOneReading};
 ghost use Rattle.d64_files.specs.Name.{is_name};
@@ -37,9 +37,9 @@ pub(crate) fn number_in(word: &str) -> Result<u8, Status>
 }
 
 /// The block of an image at a track and a sector. Both arguments are read before the image is used.
-#[tactic(auto, unfolding(crate::specs::Arguments::block_in, d64_files::specs::Chain::block_in))]
+#[tactic(auto, unfolding(crate::specs::Arguments::block_argument, d64_files::specs::Chain::block_in))]
 pub(crate) fn block_in(image: &Image, track: &str, sector: &str) -> Result<BlockNo, Status>
-    ensures block { result ≡ block_in image.now track.now sector.now }
+    ensures block { result ≡ block_argument image.now track.now sector.now }
     ensures held { IfOk result (λ block. block < length image.now) }
 {
     let track = number_in(track)?;

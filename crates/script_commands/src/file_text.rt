@@ -1,7 +1,7 @@
 //! The text of a file of the disk, for people.
 ghost use Rattle.std.specs.Prelude.{◌≡◌, ◌++◌, OnOk, IfOk, codes, if◌then◌else◌, [], ◌==◌};
 ghost use Rattle.petscii.specs.Spelling.{spell};
-ghost use Rattle.script_commands.specs.FileText.{file_text};
+ghost use Rattle.script_commands.specs.FileText.{typed_text};
 
 use petscii::push_spelling;
 use std::alloc::{AllocError, Global};
@@ -14,7 +14,7 @@ const CARRIAGE_RETURN: u8 = 13;
 ///
 /// An `Err` comes only if there is no memory for the text.
 pub(crate) fn file_text(alloc: Global, content: &[u8]) -> Result<Vec<u8>, AllocError>
-    ensures { IfOk result (λ text. text.items ≡ file_text content.now) }
+    ensures { IfOk result (λ text. text.items ≡ typed_text content.now) }
 {
     let mut text = Vec::new(alloc);
     let mut is_open = false;

@@ -6,7 +6,7 @@ ghost use Rattle.d64_dos.specs.Change.{change_of};
 ghost use Rattle.d64_dos.specs.Command.{IsWithin};
 ghost use Rattle.script_commands.specs.Response.{Responds, RespondsAlone};
 ghost use Rattle.petscii.specs.Spelling.{spelling};
-ghost use Rattle.script_commands.specs.FoundFile.{is_file_name};
+ghost use Rattle.script_commands.specs.FoundFile.{can_name_file};
 ghost use Rattle.d64_undo.specs.History.{History, present_image};
 ghost use Rattle.script_commands.specs.Line.{put, host_file_limit, block_act, block_read_act, block_write_act, crunch_act, write_program, delete_act, format_act, history_act, keep_act, list_act, name_act, name_parts, petcat_act, show_program, quit_act, read_act, read_to, redo_act, rename_act, save_act, show_file, type_act, undelete_act, undo_act, validate_act, write_act, run, write_one_block};
 
@@ -444,9 +444,9 @@ fn spelling_is_ascii(bytes: &[u8])
 {}
 
 /// Whether a text can name a host file: it isn't empty, `.` or `..`, and has no `/`.
-#[tactic(auto, unfolding(crate::specs::FoundFile::is_file_name))]
+#[tactic(auto, unfolding(crate::specs::FoundFile::can_name_file))]
 fn is_file_name(text: &[u8]) -> bool
-    ensures { result ≡ is_file_name text.now }
+    ensures { result ≡ can_name_file text.now }
 {
     !matches!(text, b"" | b"." | b"..") && !text.contains(&b'/')
 }

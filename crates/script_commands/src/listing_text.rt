@@ -3,7 +3,7 @@ ghost use Rattle.std.specs.Prelude.{◌≡◌, ◌++◌, ◌-◌, codes, if◌th
 ghost use Rattle.std.specs.Fmt.{decimal};
 ghost use Rattle.petscii.specs.Spelling.{spelling};
 ghost use Rattle.d64_dos.specs.Listing.{shown_row, shown_listing};
-ghost use Rattle.script_commands.specs.ListingText.{padded_text, kind_text, header_line, row_line, listing_text};
+ghost use Rattle.script_commands.specs.ListingText.{padded_text, listed_kind_text, header_line, row_line, listing_text};
 
 use d64_dos::{Listing, Row};
 use d64_files::Kind;
@@ -110,7 +110,7 @@ fn closed_mark(closed: bool) -> &'static [u8]
 
 /// The three letters of a file's kind.
 fn kind_text(kind: Kind) -> &'static [u8]
-    ensures { result.now ≡ kind_text kind }
+    ensures { result.now ≡ listed_kind_text kind }
 {
     match kind {
         Kind::Del => b"del",

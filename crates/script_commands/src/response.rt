@@ -57,7 +57,7 @@ impl Response {
     ghost use Rattle.std.specs.Prelude.{List, ℕ, false};
     ghost use Rattle.script_text.specs.declared.status.Status.TheVariants.{Done};
     ghost use Rattle.script_commands.specs.Act.{plain_answer, printed_bytes};
-    ghost use Rattle.script_commands.specs.Response.{answer_of, shown_answer};
+    ghost use Rattle.script_commands.specs.Response.{line_answer, shown_answer};
 
     /// A status with no output.
     pub fn plain(status: Status) -> Response
@@ -72,7 +72,7 @@ impl Response {
 
     /// The response to a line: that of an accepted one, or the status of a refusal with no output.
     pub(crate) fn of(answer: Result<Response, Status>) -> Response
-        ensures { (image : List (List ℕ)) → shown_answer image result ≡ answer_of image answer }
+        ensures { (image : List (List ℕ)) → shown_answer image result ≡ line_answer image answer }
     {
         match answer {
             Ok(response) => response,

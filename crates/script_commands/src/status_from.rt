@@ -1,6 +1,6 @@
 //! The status of each fault, refusal and reply.
 ghost use Rattle.std.specs.Prelude.{◌≡◌, ◌<◌, ◌^◌, IfSome};
-ghost use Rattle.cbm_text.specs.BasicText.{fault_line};
+ghost use Rattle.cbm_text.specs.BasicText.{basic_fault_line};
 ghost use Rattle.script_commands.specs.BasicFiles.{status_of_basic, status_of_listing};
 ghost use Rattle.script_commands.specs.Act.{status_of_fault};
 ghost use Rattle.script_commands.specs.Arguments.{status_of_text};
@@ -39,7 +39,7 @@ pub(crate) fn of_text_fault(fault: TextFault) -> Status
 
 /// The status of a fault of a BASIC text.
 pub fn of_basic_fault(fault: BasicFault) -> Status
-    requires { IfSome (fault_line fault) (λ line. line < 2 ^ 32) }
+    requires { IfSome (basic_fault_line fault) (λ line. line < 2 ^ 32) }
     ensures { result ≡ status_of_basic fault }
 {
     match fault.line() {

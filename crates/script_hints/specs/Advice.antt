@@ -7,7 +7,7 @@ use Rattle.script_text.specs.declared.status.Status.{Status}
 use Rattle.script_text.specs.declared.status.Status.TheVariants.{Done, FilesScratched, SyntaxError, UnknownCommand, LongLine, BadName, MissingWord, WriteFileOpen, FileNotFound, FileExists, FileTypeMismatch, IllegalBlock, DirectoryError, DiskFull, HostFile, NothingToUndo, NothingToRedo, NotOneBlock, BasicText, NotBasic, FileLost, OutOfMemory}
 use Rattle.script_hints.specs.Said.{Said}
 use Rattle.script_hints.specs.Command.{command_of, most_words, usage}
-use Rattle.script_hints.specs.Hint.{hint_of, hint_text}
+use Rattle.script_hints.specs.Hint.{hint_for, hint_text}
 use Rattle.script_hints.specs.Faults.{basic_fault, condition_text, list_fault}
 use Rattle.script_hints.specs.declared.command.Command.{Command}
 use Rattle.script_hints.specs.declared.command.Command.TheVariants.{Block, BlockRead, BlockWrite, Crunch, Delete, Format, Keep, Name, Petcat, Read, Rename, Save, ShowText, Undelete, Write}
@@ -141,7 +141,7 @@ wrong_host_file said command fault =
 -- the advice about a line of a command that was refused with a status
 abbrev pub advice_by : Said → Command → Status → List Piece
 advice_by said command SyntaxError = wrong_words said command
-advice_by said command UnknownCommand = two_pieces (codes "there is no command \"") Word (codes "\"") (Text (hint_text (hint_of said.word))) []
+advice_by said command UnknownCommand = two_pieces (codes "there is no command \"") Word (codes "\"") (Text (hint_text (hint_for said.word))) []
 advice_by said command LongLine = plain_pieces (codes "a line has at most 1024 characters")
 advice_by said command BadName = wrong_name said command
 advice_by said command MissingWord = missing_word said command

@@ -12,8 +12,8 @@ stops_at_refusal GoOn = false
 stops_at_refusal Stop = true
 
 -- the text of a raw line that is shown: if it is too long, its first bytes
-abbrev pub named_text : Bytes → Bytes → Bytes
-named_text raw first = if is_too_long raw then first else text_of raw
+abbrev pub shown_raw_text : Bytes → Bytes → Bytes
+shown_raw_text raw first = if is_too_long raw then first else text_of raw
 
 -- what may come before the explanation of a line with this number and text: the program's name, and
 -- if lines are named by their numbers the line too, unless there is no memory for that

@@ -55,8 +55,8 @@ hint_words =
     ∷ []
 
 -- what a name asks for
-abbrev pub hint_of : Bytes → Hint
-hint_of word = option_map_or (λ row. row.1) (find (λ row. bytes_eq word row.0) hint_words) Unknown
+abbrev pub hint_for : Bytes → Hint
+hint_for word = option_map_or (λ row. row.1) (find (λ row. bytes_eq word row.0) hint_words) Unknown
 
 -- the text of a hint
 abbrev pub hint_text : Hint → Bytes

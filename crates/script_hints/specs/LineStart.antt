@@ -5,8 +5,8 @@ use Rattle.host_names.specs.Shown.{shown_name}
 use Rattle.out_messages.specs.ShownStart.{shown_start}
 
 -- a line as it is shown: as the name of a host file is
-abbrev pub shown_line : Bytes → Bytes
-shown_line text = shown_name text
+abbrev pub shown_raw_line : Bytes → Bytes
+shown_raw_line text = shown_name text
 
 -- the beginning of the explanation of the line with this number and text: the number of the line,
 -- and its first characters

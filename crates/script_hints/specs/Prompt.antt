@@ -9,9 +9,9 @@ abbrev pub name_in_prompt : Bytes → Bytes
 name_in_prompt home = if length home == 0 then codes "d64sh" else shown_name (after_slash home)
 
 -- the mark after the name
-abbrev pub mark : Bool → Bytes
-mark is_unsaved = if is_unsaved then codes "*> " else codes "> "
+abbrev pub prompt_mark : Bool → Bytes
+prompt_mark is_unsaved = if is_unsaved then codes "*> " else codes "> "
 
 -- the prompt
 abbrev pub prompt : Bytes → Bool → Bytes
-prompt name is_unsaved = name ++ mark is_unsaved
+prompt name is_unsaved = name ++ prompt_mark is_unsaved

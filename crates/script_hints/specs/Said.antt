@@ -2,7 +2,7 @@
 use Rattle.std.specs.Prelude.{ℕ, List, [], ◌∷◌, length, drop, if◌then◌else◌, unwrap_or}
 use Rattle.d64_image.specs.Disk.{Bytes}
 use Rattle.script_text.specs.RawLines.{is_too_long, text_of}
-use Rattle.script_text.specs.Words.{words_of}
+use Rattle.script_text.specs.Words.{words_of_line}
 
 -- the command and the arguments of a line; a missing one is empty
 pub record Said : Type 0 where
@@ -31,7 +31,7 @@ said_of words = record {
 
 -- the parts of a text: nothing if it has a byte or a quote that no line has
 abbrev pub said_in : Bytes → Said
-said_in text = said_of (unwrap_or (words_of text) [])
+said_in text = said_of (unwrap_or (words_of_line text) [])
 
 -- the parts of a line: nothing if it is too long
 abbrev pub said_by : Bytes → Said

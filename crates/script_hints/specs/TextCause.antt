@@ -2,7 +2,7 @@
 use Rattle.std.specs.Prelude.{◌≡◌, ℕ, ◌==◌, ◌&&◌, Bool, true, ◌⊎◌, ◌∷◌, ◌++◌, List, Ok, false, codes}
 use Rattle.std.specs.Option.{option_map_or}
 use Rattle.d64_image.specs.Disk.{Bytes}
-use Rattle.cbm_text.specs.BasicText.{fault_line, fault_number}
+use Rattle.cbm_text.specs.BasicText.{basic_fault_line, basic_fault_number}
 use Rattle.cbm_text.specs.Causes.{cause_text}
 use Rattle.cbm_text.specs.FaultyLines.{AreFaultyIn}
 use Rattle.cbm_text.specs.declared.cause.Cause.{Cause}
@@ -19,7 +19,7 @@ use Rattle.script_hints.specs.Said.{Said}
 
 -- whether a faulty line has a fault with this number, and is the line with this number
 abbrev pub is_fault : FaultyLine → ℕ → ℕ → Bool
-is_fault faulty fault line = (fault_number faulty.fault == fault) && option_map_or (λ number. number == line) (fault_line faulty.fault) false
+is_fault faulty fault line = (basic_fault_number faulty.fault == fault) && option_map_or (λ number. number == line) (basic_fault_line faulty.fault) false
 
 -- this is wrong with the first faulty line, which has such a fault
 abbrev pub HasCauseFirst : List FaultyLine → ℕ → ℕ → Cause → Type 0
@@ -36,12 +36,12 @@ IsFoundCause host name (BasicText fault line) cause = (text : Bytes) × Fetches 
 IsFoundCause host name status cause = ⊥
 
 -- the beginning of a line, and then what is wrong with the text of this name
-unfoldable pub line_about : Bytes → Bytes → Cause → Bytes
-line_about start name cause = ((((start ++ codes "the text \"") ++ name) ++ codes "\" is not a program: ") ++ cause_text cause) ++ codes "\n"
+unfoldable pub text_cause_line : Bytes → Bytes → Cause → Bytes
+text_cause_line start name cause = ((((start ++ codes "the text \"") ++ name) ++ codes "\" is not a program: ") ++ cause_text cause) ++ codes "\n"
 
 -- the line about what is wrong with such a text
 abbrev pub IsFoundLine : HostState → Bytes → Bytes → Status → Bytes → Type 0
-IsFoundLine host start name status line = (cause : Cause) × IsFoundCause host name status cause × (line ≡ line_about start name cause)
+IsFoundLine host start name status line = (cause : Cause) × IsFoundCause host name status cause × (line ≡ text_cause_line start name cause)
 
 -- the same, or why what was deleted under the name is lost
 abbrev pub IsCauseLine : HostState → Bytes → Bytes → Status → Bytes → Type 0

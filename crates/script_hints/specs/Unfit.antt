@@ -8,16 +8,16 @@ use Rattle.program_batch.specs.Reasons.{IsReason, reason_text}
 use Rattle.program_batch.specs.declared.reason.Reason.{Reason}
 use Rattle.out_messages.specs.FaultLines.{line_about}
 use Rattle.out_messages.specs.Guesses.{guess_of, guess_text}
-use Rattle.out_messages.specs.Words.{count_of}
+use Rattle.out_messages.specs.Words.{counted_text}
 
 -- what came of a file: its bytes, or its fault
-abbrev pub Contents : Type 0
-Contents = Result Bytes HostFault
+abbrev pub FetchedFile : Type 0
+FetchedFile = Result Bytes HostFault
 
 -- what came of a file of the code, as one of the definitions
-abbrev pub contents_by : {B : Type 0} → (B → Bytes) → Result B HostFault → Contents
-contents_by bytes_of (Ok bytes) = Ok (bytes_of bytes)
-contents_by bytes_of (Err fault) = Err fault
+abbrev pub fetched_by : {B : Type 0} → (B → Bytes) → Result B HostFault → FetchedFile
+fetched_by bytes_of (Ok bytes) = Ok (bytes_of bytes)
+fetched_by bytes_of (Err fault) = Err fault
 
 -- a file for which there is no guess: an image with one more byte for each block, or no image at
 -- all
@@ -31,9 +31,9 @@ look_of bytes = option_map_or guess_text (guess_of bytes) (other_look (length by
 -- what is said about a file with these bytes
 unfoldable pub unfit_text : Bytes → List ℕ
 unfit_text bytes =
-    look_of bytes ++ (codes ", " ++ (count_of (length bytes) (codes "byte") ++ codes "; d64sh edits images of 174848 and 196608 bytes"))
+    look_of bytes ++ (codes ", " ++ (counted_text (length bytes) (codes "byte") ++ codes "; d64sh edits images of 174848 and 196608 bytes"))
 
 -- the line says why no session begins with the file of this name, on a host with these files
-abbrev pub IsUnfitLine : Option Files → Bytes → Contents → List ℕ → Type 0
+abbrev pub IsUnfitLine : Option Files → Bytes → FetchedFile → List ℕ → Type 0
 IsUnfitLine files name (Ok bytes) line = line ≡ line_about name (unfit_text bytes)
 IsUnfitLine files name (Err fault) line = (reason : Reason) × IsReason files name fault (Some reason) × (line ≡ line_about name (reason_text reason))

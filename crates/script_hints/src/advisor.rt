@@ -3,7 +3,7 @@
 //! saved.
 ghost use Rattle.std.specs.Prelude.{◌≡◌, ◌⊎◌, ℕ, List, [], Some, None, IfSome, if◌then◌else◌, ◌++◌, ◌&&◌, ◌||◌, codes, not, false, true};
 ghost use Rattle.host_storage.specs.Files.{HostState};
-ghost use Rattle.script_text.specs.HeldLine.{Says};
+ghost use Rattle.script_text.specs.HeldLine.{HoldsText};
 ghost use Rattle.script_text.specs.Output.{Writes};
 ghost use Rattle.program_console.specs.Outside.{account_at};
 ghost use Rattle.script_text.specs.Status.{is_accepted};
@@ -11,7 +11,7 @@ ghost use Rattle.d64_undo.specs.History.{present_image};
 ghost use Rattle.script_hints.specs.Advice.{advice, advice_words, pieces};
 ghost use Rattle.std.specs.Option.{option_map_or};
 ghost use Rattle.script_hints.specs.LineStart.{line_start};
-ghost use Rattle.script_hints.specs.Ear.{MayStart, named_text, stops_at_refusal};
+ghost use Rattle.script_hints.specs.Ear.{MayStart, shown_raw_text, stops_at_refusal};
 ghost use Rattle.script_hints.specs.Kept.{effect_of, is_unsaved, kept_after, kept_in, unsaved_line};
 ghost use Rattle.script_hints.specs.Leaving.{IsKeptUnder};
 ghost use Rattle.script_hints.specs.Prompt.{name_in_prompt, prompt};
@@ -168,10 +168,10 @@ impl<'w, W: Write, H: Host> Advisor<'w, W, H> {
         ensures typed { self.new.is_typed ≡ self.old.is_typed }
         ensures numbered { self.new.is_numbered ≡ self.old.is_numbered }
         ensures lines { self.new.lines ≡ self.old.lines }
-        ensures kept { (raw : List ℕ) → Says line.now raw → self.old.is_typed ≡ true → is_accepted status.now ≡ true → (found : List ℕ) × (self.new.kept ≡ kept_after self.old.kept (effect_of home.now found (said_by raw)) image.now) }
+        ensures kept { (raw : List ℕ) → HoldsText line.now raw → self.old.is_typed ≡ true → is_accepted status.now ≡ true → (found : List ℕ) × (self.new.kept ≡ kept_after self.old.kept (effect_of home.now found (said_by raw)) image.now) }
         ensures held { is_accepted status.now ≡ false → self.new.kept ≡ self.old.kept }
-        ensures advised { (raw : List ℕ) → Says line.now raw → is_accepted status.now ≡ false → (start words : List ℕ)
-            × MayStart self.old.is_numbered self.old.lines (named_text raw self.old.first_bytes.items) start
+        ensures advised { (raw : List ℕ) → HoldsText line.now raw → is_accepted status.now ≡ false → (start words : List ℕ)
+            × MayStart self.old.is_numbered self.old.lines (shown_raw_text raw self.old.first_bytes.items) start
             × MaySay (H.state self.old.host) start (said_by raw) status.now words
             × Writes (account_at W.contents self.old.output) (account_at W.contents self.new.output) words }
         ensures silent { is_accepted status.now ≡ true → self.new.output ≡ self.old.output }
@@ -205,7 +205,7 @@ impl<'w, W: Write, H: Host> Advisor<'w, W, H> {
     /// that is too long it has the first bytes.
     fn start_of(&self, line: &HeldLine) -> Option<Vec<u8>>
         ensures { IfSome result (λ start. (self.now.is_numbered ≡ true)
-            × ((raw : List ℕ) → Says line.now raw → start.items ≡ line_start self.now.lines (named_text raw self.now.first_bytes.items))) }
+            × ((raw : List ℕ) → HoldsText line.now raw → start.items ≡ line_start self.now.lines (shown_raw_text raw self.now.first_bytes.items))) }
     {
         if !self.is_numbered {
             return None;

@@ -1,6 +1,6 @@
 //! The hints for the commands of `c1541`, and for other names that people try.
 ghost use Rattle.std.specs.Prelude.{◌≡◌};
-ghost use Rattle.script_hints.specs.Hint.{hint_of, hint_text};
+ghost use Rattle.script_hints.specs.Hint.{hint_for, hint_text};
 
 /// What a name that is no command asks for.
 #[derive(Clone, Copy)]
@@ -33,7 +33,7 @@ pub(crate) enum Hint {
 impl Hint {
     /// What a name asks for.
     pub(crate) fn of(word: &str) -> Hint
-        ensures { result ≡ hint_of word.now }
+        ensures { result ≡ hint_for word.now }
     {
         match word {
             "@" => Hint::Fault,

@@ -2,7 +2,7 @@
 //! characters.
 ghost use Rattle.std.specs.Prelude.{◌≡◌, ◌++◌, codes, decimal, IfOk};
 ghost use Rattle.out_messages.specs.ShownStart.{shown_start};
-ghost use Rattle.script_hints.specs.LineStart.{line_start, shown_line};
+ghost use Rattle.script_hints.specs.LineStart.{line_start, shown_raw_line};
 
 use host_names::push_shown;
 use out_messages::{push_number, shown_start};
@@ -25,7 +25,7 @@ pub(crate) fn line_start(alloc: Global, number: usize, text: &[u8]) -> Result<Ve
 
 /// A line as it is shown.
 pub(crate) fn shown_line(alloc: Global, text: &[u8]) -> Result<Vec<u8>, AllocError>
-    ensures { IfOk result (λ shown. shown.items ≡ shown_line text.now) }
+    ensures { IfOk result (λ shown. shown.items ≡ shown_raw_line text.now) }
 {
     let mut shown = Vec::new(alloc);
     push_shown(&mut shown, text)?;

@@ -1,6 +1,6 @@
 //! Why what was deleted under a name is lost.
 ghost use Rattle.std.specs.Prelude.{◌≡◌, ◌++◌, IfOk, IfSome, OnOk};
-ghost use Rattle.script_hints.specs.Lost.{IsLostLine, loss_text, lost_about};
+ghost use Rattle.script_hints.specs.Lost.{IsLostLine, loss_reason_text, lost_about};
 
 use d64_image::Image;
 use d64_scratched::{Loss, ScratchedSlots, is_scratched};
@@ -47,15 +47,15 @@ fn lost_about(alloc: Global, start: &[u8], name: &[u8], loss: Loss) -> Result<Ve
 
 /// Appends the text for a reason.
 fn push_loss(line: &mut Vec<u8>, loss: Loss) -> Result<(), AllocError>
-    ensures { OnOk result (line.new.items ≡ line.old.items ++ loss_text loss) }
+    ensures { OnOk result (line.new.items ≡ line.old.items ++ loss_reason_text loss) }
 {
     line.extend_from_slice(loss_text(loss))
 }
 
 /// Returns the text for a reason.
-#[tactic(auto, unfolding(crate::specs::Lost::loss_text))]
+#[tactic(auto, unfolding(crate::specs::Lost::loss_reason_text))]
 fn loss_text(loss: Loss) -> &'static [u8]
-    ensures { result.now ≡ loss_text loss }
+    ensures { result.now ≡ loss_reason_text loss }
 {
     match loss {
         Loss::Chain => b": its chain of blocks is broken",

@@ -3,7 +3,7 @@ ghost use Rattle.std.specs.Prelude.{◌≡◌, ◌++◌, IfOk, OnOk, OnErr};
 ghost use Rattle.script_text.specs.Output.{Writes};
 ghost use Rattle.program_console.specs.Outside.{account_at};
 ghost use Rattle.script_commands.specs.Arguments.{after_slash};
-ghost use Rattle.script_hints.specs.Prompt.{mark, name_in_prompt, prompt};
+ghost use Rattle.script_hints.specs.Prompt.{prompt_mark, name_in_prompt, prompt};
 
 use host_names::push_shown;
 use script_text::output::{OutputStream, WriteFault};
@@ -48,7 +48,7 @@ pub(crate) fn write_prompt<W: Write>(
 
 /// The mark after the name.
 fn mark(is_unsaved: bool) -> &'static [u8]
-    ensures { result.now ≡ mark is_unsaved }
+    ensures { result.now ≡ prompt_mark is_unsaved }
 {
     if is_unsaved { b"*> " } else { b"> " }
 }

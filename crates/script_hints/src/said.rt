@@ -1,6 +1,6 @@
 //! The parts of a line that an explanation needs.
 ghost use Rattle.std.specs.Prelude.{◌≡◌, ◌≤◌, ℕ, List, [], All, length, drop};
-ghost use Rattle.script_text.specs.HeldLine.{Says};
+ghost use Rattle.script_text.specs.HeldLine.{HoldsText};
 ghost use Rattle.script_text.specs.Words.{IsPrintable};
 ghost use Rattle.script_hints.specs.Said.{first_of, said_of, said_in, said_by};
 
@@ -48,7 +48,7 @@ impl<'a> Said<'a> {
     /// The parts of a line that was read to its end; nothing if it is too long, or has a byte or a
     /// quote that no line has.
     pub(crate) fn of(line: &'a HeldLine) -> Said<'a>
-        ensures { (raw : List ℕ) → Says line.now raw → result ≡ said_by raw }
+        ensures { (raw : List ℕ) → HoldsText line.now raw → result ≡ said_by raw }
     {
         match line.text() {
             Some(text) => Said::in_text(text),

@@ -1,7 +1,7 @@
 //! What is wrong with the text of a refused `crunch`, which is read again for this.
 ghost use Rattle.std.specs.Prelude.{◌≡◌, IfOk, IfSome};
 ghost use Rattle.host_storage.specs.Files.{HostState};
-ghost use Rattle.script_hints.specs.TextCause.{HasCauseFirst, IsFirstCause, IsFoundCause, IsFoundLine, is_fault, line_about};
+ghost use Rattle.script_hints.specs.TextCause.{HasCauseFirst, IsFirstCause, IsFoundCause, IsFoundLine, is_fault, text_cause_line};
 
 use cbm_text::{Cause, FaultyLine, faulty_lines};
 use host_storage::Host;
@@ -33,9 +33,9 @@ pub(crate) fn text_line<H: Host>(
 }
 
 /// The line about a text with what is wrong with it.
-#[tactic(auto, unfolding(crate::specs::TextCause::line_about))]
+#[tactic(auto, unfolding(crate::specs::TextCause::text_cause_line))]
 fn line_about(alloc: Global, start: &[u8], name: &[u8], cause: Cause) -> Result<Vec<u8>, AllocError>
-    ensures { IfOk result (λ line. line.items ≡ line_about start.now name.now cause) }
+    ensures { IfOk result (λ line. line.items ≡ text_cause_line start.now name.now cause) }
 {
     let mut line = Vec::new(alloc);
     line.extend_from_slice(start)?;

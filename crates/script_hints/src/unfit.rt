@@ -1,7 +1,7 @@
 //! Why no session begins with a file.
 ghost use Rattle.std.specs.Prelude.{◌≡◌, IfOk, IfSome};
 ghost use Rattle.out_messages.specs.FaultLines.{line_about};
-ghost use Rattle.script_hints.specs.Unfit.{IsUnfitLine, contents_by, look_of, unfit_text};
+ghost use Rattle.script_hints.specs.Unfit.{IsUnfitLine, fetched_by, look_of, unfit_text};
 
 use host_names::push_shown;
 use host_storage::{Host, HostFault};
@@ -18,7 +18,7 @@ pub(crate) fn unfit_line<H: Host>(
     name: &str,
     contents: Result<&[u8], HostFault>,
 ) -> Option<Vec<u8>>
-    ensures { IfSome result (λ line. IsUnfitLine (H.state host.now).files name.now (contents_by (λ bytes. bytes.now) contents.entry) line.items) }
+    ensures { IfSome result (λ line. IsUnfitLine (H.state host.now).files name.now (fetched_by (λ bytes. bytes.now) contents.entry) line.items) }
 {
     match contents {
         Ok(bytes) => {

@@ -6,12 +6,12 @@ use Rattle.std.proofs.KnownBytes.{Appends-kept}
 use Rattle.std.proofs.lemmas.Bool.{cases_Bool, false≢true}
 use Rattle.host_storage.specs.Files.{HostState}
 use Rattle.script_commands.specs.Act.{world_of}
-use Rattle.script_text.specs.HeldLine.{Holds}
+use Rattle.script_text.specs.HeldLine.{HoldsLine}
 use Rattle.script_text.specs.Input.{Reading}
 use Rattle.script_text.specs.Script.{script_limit}
 use Rattle.script_parts.specs.Parts.{Ends, HasCome}
 use Rattle.script_run.specs.Transcript.{RunOptions, RunProgress, Line, Transcript, IsSilent}
-use Rattle.script_run.specs.Runner.{EndsWith, ScriptState, first_progress, Ran, RanLines, RanRead, StoppedAt, options_of}
+use Rattle.script_run.specs.Runner.{EndsStreams, ScriptState, first_progress, Ran, RanLines, RanRead, StoppedAt, options_of}
 use Rattle.script_run.specs.LineByLine.{EndsRun, HasRun, ended_line, lines_in, progress_of, state_of}
 use Rattle.script_run.specs.declared.runner.LineRunner.{LineRunner}
 use Rattle.script_run.specs.declared.runner.Outcome.{Outcome}
@@ -152,7 +152,7 @@ StoppedAt-before options first reached parts more next after flushed ran is_open
 
 -- a run that begins
 pub HasRun-none : {L W H : Type 0} (contents : W → Option (List ℕ)) (state : H → HostState) (run : LineRunner L W H) → run.tally ≡ record { outcome = record { accepted = 0; refused = 0 }; closed = false }
-    → Holds run.line [] → run.output.now.has_failed ≡ false → HasRun contents state run run [] []
+    → HoldsLine run.line [] → run.output.now.has_failed ≡ false → HasRun contents state run run [] []
 HasRun-none contents state run none held unfailed = record {
   keeps = record { options = refl; observer = refl; output = refl; writer = refl; host = refl; session = refl };
   ran = RanLines-none (options_of run.options) (state_of contents state run) run.tally none;
@@ -201,10 +201,10 @@ RanRead-by contents state first now reader left consumed lost come =
 
 -- a run that has ended without a failed read
 pub EndsWith-ended : {L W H : Type 0} (contents : W → Option (List ℕ)) (state : H → HostState) (first now : LineRunner L W H) (parts : List (List ℕ)) (ended : Result Outcome ShellFault) (input : Reading)
-    → EndsRun contents state first now parts ended → input.has_failed ≡ false → EndsWith ended input now.output.now.has_failed
+    → EndsRun contents state first now parts ended → input.has_failed ≡ false → EndsStreams ended input now.output.now.has_failed
 EndsWith-ended contents state first now parts (Ok outcome) input ends read = let (after, ran, accepted, refused, unfailed) = ends.ran in (read, unfailed)
 EndsWith-ended contents state first now parts (Err fault) input ends read =
-    subst (λ (f : ShellFault). EndsWith (Err f) input now.output.now.has_failed) (sym ends.ran.0) (read, ends.ran.2)
+    subst (λ (f : ShellFault). EndsStreams (Err f) input now.output.now.has_failed) (sym ends.ran.0) (read, ends.ran.2)
 
 -- what the output shows of a run that has ended
 pub written_by : {L W H : Type 0} (contents : W → Option (List ℕ)) (state : H → HostState) (first now : LineRunner L W H) (parts : List (List ℕ)) (ended : Result Outcome ShellFault)

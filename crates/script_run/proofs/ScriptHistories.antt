@@ -29,13 +29,13 @@ use Rattle.script_commands.specs.BasicFiles.{program_start}
 use Rattle.d64_undo.specs.declared.request.Answer.{Answer}
 use Rattle.d64_undo.specs.declared.request.Answer.TheVariants.{Accepted, Undone, Redone}
 use Rattle.script_text.specs.RawLines.{text_of, is_too_long, is_skipped}
-use Rattle.script_text.specs.Words.{words_of}
+use Rattle.script_text.specs.Words.{words_of_line}
 use Rattle.petscii.specs.Spelling.{spelling}
-use Rattle.script_commands.specs.Act.{printed_bytes, Act, Give, Refuse, Then, Call, Text, Fetch, Store, Crunch, Expand, Room, Gives, given_by, Ending, Does, LineAnswer, World, ◌>>=◌, value_or_refusal, need, each_text, plain_answer}
+use Rattle.script_commands.specs.Act.{printed_bytes, Act, Give, Refuse, Then, Call, Text, Fetch, Store, Crunch, Expand, Room, CallGives, bytes_given, Ending, Does, LineAnswer, World, ◌>>=◌, value_or_refusal, need, each_text, plain_answer}
 use Rattle.host_storage.specs.Files.{HostState}
-use Rattle.script_commands.specs.Arguments.{host_in, block_in, at_comma, can_be_id, name_and_kind_in, name_and_kind_of}
+use Rattle.script_commands.specs.Arguments.{host_in, block_argument, at_comma, can_be_id, name_and_kind_in, name_and_kind_of}
 use Rattle.script_commands.specs.WordCounts.{no_word, one_word, at_most_one, word_and, some_words}
-use Rattle.script_commands.specs.FoundFile.{found_name, is_file_name}
+use Rattle.script_commands.specs.FoundFile.{found_name, can_name_file}
 use Rattle.script_commands.specs.Line.{refuse_by, leave, run, commands, act_of_words, act_of_line, name_parts, read_to, save_act, undo_act, redo_act}
 use Rattle.script_run.specs.ScriptLaws.{IsReachedIn, ScriptsAreRuns, IsBlockWrite, ScriptsKeepDisksSound}
 use Rattle.script_run.specs.declared.run_options.Refusals.{Refusals}
@@ -52,11 +52,11 @@ Known (Crunch text) bytes = AreBytes bytes
 Known (Expand file) bytes = Unit {0}
 Known Room bytes = Unit {0}
 
-fetched-known : (fetched : Result (List ℕ) HostFault) (bytes : List ℕ) → IfOk fetched AreBytes → Ok bytes ≡ given_by (λ bytes. bytes) fetched → AreBytes bytes
+fetched-known : (fetched : Result (List ℕ) HostFault) (bytes : List ℕ) → IfOk fetched AreBytes → Ok bytes ≡ bytes_given (λ bytes. bytes) fetched → AreBytes bytes
 fetched-known (Ok others) bytes small same = let is : bytes ≡ others = cc in subst AreBytes (sym is) small
 fetched-known (Err fault) bytes small same = absurd cc
 
-given-known : (call : Call) (old : HostState) (bytes : List ℕ) (new : HostState) → Gives call old (Ok bytes) new → Known call bytes
+given-known : (call : Call) (old : HostState) (bytes : List ℕ) (new : HostState) → CallGives call old (Ok bytes) new → Known call bytes
 given-known (Text test word) old bytes new (spelled, same) = (small_bytes bytes word spelled.0, spelled.1)
 given-known (Fetch name limit) old bytes new (fetched, fetches, is) = fetched-known fetched bytes fetches.bytes is
 given-known (Store name stored) old bytes new gives = tt
@@ -165,7 +165,7 @@ name-leads IsOne history word (Some parts) one =
 read-leads : (IsOne : Asked → Type 0) (history : History) (pattern : List ℕ) (host : Option (List ℕ)) → Leads IsOne history (read_to history pattern host)
 read-leads IsOne history pattern None =
     after_any IsOne history (refuse_by (read_refusal (present_image history) pattern)) _
-    (λ _ bytes known. after_any IsOne history (need (is_file_name (spelling (found_name (present_image history) pattern))) _) _ (λ _ stored known. inl refl))
+    (λ _ bytes known. after_any IsOne history (need (can_name_file (spelling (found_name (present_image history) pattern))) _) _ (λ _ stored known. inl refl))
 read-leads IsOne history pattern (Some host) =
     after_any IsOne history (value_or_refusal (host_in host)) _
     (λ name. after_any IsOne history (refuse_by (read_refusal (present_image history) pattern)) _ (λ _ stored known. inl refl))
@@ -199,7 +199,7 @@ commands-lead IsOne home history first words keeps writes =
     ⨾ (λ undo. after_any IsOne history (no_word words) _ (λ _. undo-leads IsOne history (keeps _ tt)))
     ⨾ (λ validate. after_any IsOne history (no_word words) _ (λ _. run-leads IsOne history changes.Validate (keeps _ (refl, tt))))
     ⨾ (λ block. after_any IsOne history (word_and one_word words) _
-    (λ place. after_any IsOne history (value_or_refusal (block_in (present_image history) place.0 place.1)) _ (λ at. inl refl)))
+    (λ place. after_any IsOne history (value_or_refusal (block_argument (present_image history) place.0 place.1)) _ (λ at. inl refl)))
     ⨾ (λ delete. after_any IsOne history (some_words words) _
     (λ w. after_any IsOne history (each_text is_pattern w) _
     (λ patterns. run-leads IsOne history (changes.Delete patterns) (keeps _ (refl, tt)))))
@@ -229,10 +229,10 @@ commands-lead IsOne home history first words keeps writes =
     run-leads IsOne history (changes.Write name file.1 bytes) (keeps _ (refl, (name-made name named, fetched)))))))
     ⨾ (λ bread. after_any IsOne history (word_and (word_and one_word) words) _
     (λ w. after_any IsOne history (value_or_refusal (host_in w.0)) _
-    (λ name. after_any IsOne history (value_or_refusal (block_in (present_image history) w.1.0 w.1.1)) _ (λ at stored known. inl refl))))
+    (λ name. after_any IsOne history (value_or_refusal (block_argument (present_image history) w.1.0 w.1.1)) _ (λ at stored known. inl refl))))
     ⨾ (λ bwrite. after_any IsOne history (word_and (word_and one_word) words) _
     (λ w. after_any IsOne history (value_or_refusal (host_in w.0)) _
-    (λ name. after_any IsOne history (value_or_refusal (block_in (present_image history) w.1.0 w.1.1)) _
+    (λ name. after_any IsOne history (value_or_refusal (block_argument (present_image history) w.1.0 w.1.1)) _
     (λ at bytes known. after_any IsOne history (need (length bytes == 256) _) _
     (λ _. run-leads IsOne history (changes.BlockWrite at bytes) (writes bwrite _))))))
     ⨾ (λ keep. after_any IsOne history (one_word words) _
@@ -280,13 +280,13 @@ line-leads : (options : RunOptions) (history : History) (line : List ℕ) → If
 unfolding act_of_line
 line-leads options history line =
     one_of (AsksIn line) history (is_too_long line) (is_skipped (text_of line)) _
-    (after_found (AsksIn line) history (words_of (text_of line)) _ _
+    (after_found (AsksIn line) history (words_of_line (text_of line)) _ _
     (λ words cut. words-lead (AsksIn line) options.home history words (λ request keeps. inr keeps)
     (λ more is request. inl (record { words = more; cut = cut ∙ ap Some is }))))
 
 -- if a call can be refused, what follows it leads
 given-leads : (IsOne : Asked → Type 0) (history : History) (call : Call) (next : List ℕ → Act Ending) (given : Result (List ℕ) Status) (host : HostState) (world : World) (answer : LineAnswer) (left : World)
-    → world.history ≡ history → Gives call world.host given host
+    → world.history ≡ history → CallGives call world.host given host
     → ((bytes : List ℕ) → Known call bytes → Does (next bytes) (record { host = host; history = world.history }) answer left → IsStepFrom IsOne history left.history)
     → MatchResult given
     (λ bytes. Does (next bytes) (record { host = host; history = world.history }) answer left)

@@ -2,7 +2,7 @@
 use Rattle.std.specs.Prelude.{◌≡◌, ℕ, ◌+◌, ◌<◌, true, false, List, [], ◌∷◌, ◌++◌, map, Option, MatchResult, Result}
 use Rattle.std.specs.Io.KnownBytes.{Appends}
 use Rattle.host_storage.specs.Files.{HostState}
-use Rattle.script_text.specs.HeldLine.{Holds}
+use Rattle.script_text.specs.HeldLine.{HoldsLine}
 use Rattle.script_text.specs.Output.{AppendsPart}
 use Rattle.script_commands.specs.Act.{World, world_of}
 use Rattle.script_run.specs.Transcript.{RunOptions, RunProgress, Line}
@@ -30,8 +30,8 @@ lines_in ((byte ∷ rest) ∷ []) = (byte ∷ rest) ∷ []
 lines_in (part ∷ next ∷ more) = ended_line part ∷ lines_in (next ∷ more)
 
 -- how many lines were counted
-abbrev pub count_of : {L W H : Type 0} → LineRunner L W H → ℕ
-count_of run = run.tally.outcome.accepted + run.tally.outcome.refused
+abbrev pub line_count_of : {L W H : Type 0} → LineRunner L W H → ℕ
+line_count_of run = run.tally.outcome.accepted + run.tally.outcome.refused
 
 -- what the writer has, and the world
 abbrev pub state_of : {L W H : Type 0} → (W → Option (List ℕ)) → (H → HostState) → LineRunner L W H → ScriptState
@@ -52,10 +52,10 @@ pub record HasRun {L W H : Type 0} (contents : W → Option (List ℕ)) (state :
   pub keeps : KeepsRun first now
   pub ran : RanLines (options_of first.options) (state_of contents state first) (state_of contents state now) (map ended_line parts)
       (progress_of now.tally (world_of (state now.host.now) now.session.now))
-  pub held : Holds now.line begun
+  pub held : HoldsLine now.line begun
   pub open_run : now.tally.closed ≡ false
   pub unfailed : now.output.now.has_failed ≡ false
-  pub observed : first.output.now.is_delivered ≡ true → now.output.now.is_delivered ≡ false → 0 < count_of now
+  pub observed : first.output.now.is_delivered ≡ true → now.output.now.is_delivered ≡ false → 0 < line_count_of now
 
 -- the run ends: all lines have run, or a write failed at one of them
 pub record EndsRun {L W H : Type 0} (contents : W → Option (List ℕ)) (state : H → HostState) (first now : LineRunner L W H) (parts : List (List ℕ)) (ended : Result Outcome ShellFault) : Type 0 where

@@ -94,8 +94,8 @@ Ran options reader left old new (Err (Memory error)) = ⊥
 -- how the streams of a run ended: without a failure if the run came to its end; if it is a fault of
 -- reading, a read failed or a limit was passed, and no write or flush failed; if it is a fault of
 -- writing, a write or a flush failed, and no read
-abbrev pub EndsWith : Result Outcome ShellFault → Reading → Bool → Type 0
-EndsWith (Ok outcome) input output_failed = (input.has_failed ≡ false) × (output_failed ≡ false)
-EndsWith (Err Read) input output_failed = IsUnreadable input × (output_failed ≡ false)
-EndsWith (Err Write) input output_failed = (input.has_failed ≡ false) × (output_failed ≡ true)
-EndsWith (Err (Memory error)) input output_failed = ⊥
+abbrev pub EndsStreams : Result Outcome ShellFault → Reading → Bool → Type 0
+EndsStreams (Ok outcome) input output_failed = (input.has_failed ≡ false) × (output_failed ≡ false)
+EndsStreams (Err Read) input output_failed = IsUnreadable input × (output_failed ≡ false)
+EndsStreams (Err Write) input output_failed = (input.has_failed ≡ false) × (output_failed ≡ true)
+EndsStreams (Err (Memory error)) input output_failed = ⊥

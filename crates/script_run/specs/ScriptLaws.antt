@@ -5,7 +5,7 @@ use Rattle.d64_undo.specs.Request.{Asked, Run}
 use Rattle.d64_undo.specs.SoundHistory.{HoldsSoundDisks}
 use Rattle.d64_undo.specs.declared.request.Answer.{Answer}
 use Rattle.script_text.specs.RawLines.{text_of}
-use Rattle.script_text.specs.Words.{words_of}
+use Rattle.script_text.specs.Words.{words_of_line}
 use Rattle.script_run.specs.Transcript.{RunOptions, RunProgress, Transcript}
 
 -- a run of at most n requests leads from one history to another
@@ -25,7 +25,7 @@ ScriptsAreRuns =
 -- the first word of a line is that of a block write
 pub record IsBlockWrite (line : List ℕ) : Type 0 where
   pub words : List (List ℕ)
-  pub cut : words_of (text_of line) ≡ Some (codes "bwrite" ∷ words)
+  pub cut : words_of_line (text_of line) ≡ Some (codes "bwrite" ∷ words)
 
 -- lines without block writes leave sound disks sound, whatever the host does
 abbrev pub ScriptsKeepDisksSound : Type 0

@@ -1,16 +1,16 @@
 //! A script, from its bytes to the bytes of its output, line by line.
 ghost use Rattle.std.specs.Prelude.{◌≡◌, ◌≤◌, ◌<◌, ◌^◌, ◌+◌, [], true, false, ℕ, List, length, Some, Err, MatchResult, OnOk, OnErr};
 ghost use Rattle.std.specs.Io.KnownBytes.{Appends, Keeps};
-ghost use Rattle.script_text.specs.HeldLine.{Says};
+ghost use Rattle.script_text.specs.HeldLine.{HoldsText};
 ghost use Rattle.script_text.specs.Input.{IsUnread, reading_of};
 ghost use Rattle.script_text.specs.Output.{AppendsPart, FailsWith};
 ghost use Rattle.script_text.specs.Script.{script_limit};
 ghost use Rattle.d64_undo.specs.History.{present_image};
 ghost use Rattle.script_commands.specs.Act.{printed_bytes, world_of};
 ghost use Rattle.script_commands.specs.Response.{shown_answer};
-ghost use Rattle.script_run.specs.Runner.{EndsWith, Ran, options_of, script_state};
+ghost use Rattle.script_run.specs.Runner.{EndsStreams, Ran, options_of, script_state};
 ghost use Rattle.script_run.specs.Transcript.{going_on};
-ghost use Rattle.script_run.specs.LineByLine.{EndsRun, HasRun, KeepsRun, RunsLine, StopsInLine, count_of, state_of};
+ghost use Rattle.script_run.specs.LineByLine.{EndsRun, HasRun, KeepsRun, RunsLine, StopsInLine, line_count_of, state_of};
 
 use crate::observer::{Nobody, Observer};
 use crate::run_options::{Refusals, RunOptions};
@@ -171,7 +171,7 @@ impl<'n, 'l, L: Observer> ScriptRunner<'n, 'l, L> {
             (script_state (W.contents output.old.writer.now) (world_of (H.state host.old) session.old))
             (script_state (W.contents output.new.writer.now) (world_of (H.state host.new) session.new))
             result }
-        ensures streams { EndsWith result (reading_of input.new.reads input.new.came input.new.has_failed) output.new.has_failed }
+        ensures streams { EndsStreams result (reading_of input.new.reads input.new.came input.new.has_failed) output.new.has_failed }
     {
         let ScriptRunner {
             alloc,
@@ -284,12 +284,12 @@ impl<'n, 'l, 'o, 'w, 'h, 's, L: Observer, W: Write, H: Host> LineRunner<
         requires unread { IsUnread (reading_of input.old.reads input.old.came input.old.has_failed) }
         requires delivered { self.old.output.now.is_delivered ≡ true }
         requires begun { HasRun W.contents H.state self.old self.old [] [] }
-        requires few { count_of self.old ≡ 0 }
+        requires few { line_count_of self.old ≡ 0 }
         ensures input { input.new.reader.ghost_name ≡ input.old.reader.ghost_name }
         ensures kept { KeepsRun self.old self.new }
         ensures ran { Ran (options_of self.old.options) (R.remaining input.old.reader.now) (R.remaining input.new.reader.now)
             (state_of W.contents H.state self.old) (state_of W.contents H.state self.new) result }
-        ensures streams { EndsWith result (reading_of input.new.reads input.new.came input.new.has_failed) self.new.output.now.has_failed }
+        ensures streams { EndsStreams result (reading_of input.new.reads input.new.came input.new.has_failed) self.new.output.now.has_failed }
     {
         match read_parts(input, b'\n', self) {
             Ok(ended) => ended,
@@ -300,7 +300,7 @@ impl<'n, 'l, 'o, 'w, 'h, 's, L: Observer, W: Write, H: Host> LineRunner<
     /// Runs this text as a script, up to the most bytes that a script has.
     fn cut(&mut self, text: &[u8]) -> Result<Outcome, ShellFault>
         requires begun { HasRun W.contents H.state self.old self.old [] [] }
-        requires few { count_of self.old ≡ 0 }
+        requires few { line_count_of self.old ≡ 0 }
         ensures kept { KeepsRun self.old self.new }
         ensures ran { Ran (options_of self.old.options) (Some text.now) (Some [])
             (state_of W.contents H.state self.old) (state_of W.contents H.state self.new) result }
@@ -316,12 +316,12 @@ impl<'n, 'l, 'o, 'w, 'h, 's, L: Observer, W: Write, H: Host> LineRunner<
 
     /// Runs the line that is held, which was read to its end, and writes its response.
     fn run_line(&mut self) -> Result<(), WriteFault>
-        requires few { count_of self.old < 2 ^ 63 }
+        requires few { line_count_of self.old < 2 ^ 63 }
         ensures kept { KeepsRun self.old self.new }
         ensures failed { FailsWith result self.old.output.now.has_failed self.new.output.now.has_failed }
-        ensures count { (count_of self.old ≤ count_of self.new) × (count_of self.new ≤ count_of self.old + 1) }
-        ensures observed { self.new.output.now.is_delivered ≡ false → self.old.output.now.is_delivered ≡ true → 0 < count_of self.new }
-        ensures ran { (raw : List ℕ) → Says self.old.line raw → self.old.tally.closed ≡ false → MatchResult result
+        ensures count { (line_count_of self.old ≤ line_count_of self.new) × (line_count_of self.new ≤ line_count_of self.old + 1) }
+        ensures observed { self.new.output.now.is_delivered ≡ false → self.old.output.now.is_delivered ≡ true → 0 < line_count_of self.new }
+        ensures ran { (raw : List ℕ) → HoldsText self.old.line raw → self.old.tally.closed ≡ false → MatchResult result
             (λ _. RunsLine (options_of self.old.options) raw (state_of W.contents H.state self.old) (state_of W.contents H.state self.new) self.old.tally self.new.tally)
             (λ _. StopsInLine (options_of self.old.options) raw (state_of W.contents H.state self.old) (state_of W.contents H.state self.new) self.old.tally) }
     {
@@ -351,7 +351,7 @@ impl<'n, 'l, 'o, 'w, 'h, 's, L: Observer, W: Write, H: Host> PartHandler
 
     ghost separator = { λ run. 10 };
 
-    ghost count = { count_of };
+    ghost count = { line_count_of };
 
     ghost has_come = { HasRun W.contents H.state };
 

@@ -6,7 +6,7 @@ use Rattle.std.proofs.lemmas.List.Folds.{list_any-append}
 use Rattle.std.proofs.Math.Seq.{get_or-append_seam}
 use Rattle.std.specs.List.{onto_first, list_any, flat_map}
 use Rattle.std.specs.Io.BufRead.{take_through, drop_through, ends_with_byte, strip_last}
-use Rattle.script_text.specs.HeldLine.{Holds, IsOpen, Says}
+use Rattle.script_text.specs.HeldLine.{HoldsLine, IsOpen, HoldsText}
 use Rattle.script_text.specs.RawLines.{before_end, is_ended, is_too_long, lines_of, line_limit, text_of}
 use Rattle.script_text.specs.declared.held_line.HeldLine.{HeldLine}
 use Rattle.script_text.proofs.LineCuts.{is_line_feed, lines_of-end, lines_of-inside, lines_of-open, lines_of-nil, lines_of-through, list_any-ended, flat_map-lines_of}
@@ -165,7 +165,7 @@ Says-by false held text before fits is_text holds is_open = (
 
 -- a line that is held says what it is with its LF, once a CR at its end is dropped
 pub Says-ended : (old new : HeldLine) (before : List ℕ) → length old.bytes.items ≤ line_limit → new.bytes.items ≡ strip_last 13 old.bytes.items
-    → new.is_long ≡ old.is_long → Holds old before → IsOpen before → Says new (before ++ 10 ∷ [])
+    → new.is_long ≡ old.is_long → HoldsLine old before → IsOpen before → HoldsText new (before ++ 10 ∷ [])
 Says-ended old new before fits is_text long holds is_open = rw long (Says-by old.is_long old.bytes.items new.bytes.items before fits is_text holds is_open)
 
 Says-last-by : (is_long : Bool) (held raw : List ℕ) → length held ≤ line_limit → MatchBool is_long (line_limit < length raw) (held ≡ raw) → IsOpen raw
@@ -179,5 +179,5 @@ Says-last-by false held raw fits holds is_open = (
 )
 
 -- a line that the script's end ends says what it is
-pub Says-last : (line : HeldLine) (raw : List ℕ) → length line.bytes.items ≤ line_limit → Holds line raw → IsOpen raw → Says line raw
+pub Says-last : (line : HeldLine) (raw : List ℕ) → length line.bytes.items ≤ line_limit → HoldsLine line raw → IsOpen raw → HoldsText line raw
 Says-last line raw fits holds is_open = Says-last-by line.is_long line.bytes.items raw fits holds is_open

@@ -7,7 +7,7 @@ use Rattle.std.proofs.lemmas.Bool.Decides.{nat_tests}
 use Rattle.std.proofs.lemmas.List.Elements.{All-nil, All-cons, All-tail, All-take, All-drop, All-weaker}
 use Rattle.std.proofs.lemmas.List.Sums.{AllPass-from_list_all}
 use Rattle.std.proofs.lemmas.Option.{IfSome_then, none-some}
-use Rattle.script_text.specs.Words.{space, quote, IsPrintable, is_printable, is_quote, ends_run, ends_word, word_before, quoted_word, bare_word, first_word, words_within, split_words, words_left, words_of}
+use Rattle.script_text.specs.Words.{space, quote, IsPrintable, is_printable, is_quote, ends_run, ends_word, word_before, quoted_word, bare_word, first_word, words_within, split_words, words_left, words_of_line}
 
 -- what is known of a word with which a text begins, and of the rest of the line
 pub record IsFirstWord (text : List ℕ) (first : List ℕ × List ℕ) : Type 0 where
@@ -128,13 +128,13 @@ unfolding split_words
 split_words-nil = refl
 
 -- the words of a line of printable bytes
-pub words_of-printable : (line : List ℕ) → list_all is_printable line ≡ true → words_of line ≡ split_words line
-unfolding words_of
+pub words_of-printable : (line : List ℕ) → list_all is_printable line ≡ true → words_of_line line ≡ split_words line
+unfolding words_of_line
 words_of-printable line printable = cond-true (list_all is_printable line) (split_words line) None printable
 
 -- a line with another byte
-pub words_of-none : (line : List ℕ) → list_all is_printable line ≡ false → words_of line ≡ None
-unfolding words_of
+pub words_of-none : (line : List ℕ) → list_all is_printable line ≡ false → words_of_line line ≡ None
+unfolding words_of_line
 words_of-none line not_printable = cond-false (list_all is_printable line) (split_words line) None not_printable
 
 -- the bytes of the words are bytes of the line
@@ -156,8 +156,8 @@ pub is_printable-true : (b : ℕ) → is_printable b ≡ true → IsPrintable b
 is_printable-true b h = grind (arith, nat_tests)
 
 -- the words of a line have only printable bytes
-words_of-all_printable : (line : List ℕ) → IfSome (words_of line) (All (All IsPrintable))
-unfolding words_of split_words
+words_of-all_printable : (line : List ℕ) → IfSome (words_of_line line) (All (All IsPrintable))
+unfolding words_of_line split_words
 words_of-all_printable line =
     cond_both (list_all is_printable line) (split_words line) None (λ o. IfSome o (All (All IsPrintable)))
     (λ printable. words_within_printable (length line) line
@@ -200,11 +200,11 @@ words_left-counted : (text : List ℕ) (n : ℕ) → option_map length (split_wo
 words_left-counted text n h = counted (split_words text) n h
 
 -- the words of a line of printable bytes are those that are left of a walk along it
-pub line_words : (line : List ℕ) (n : ℕ) → list_all is_printable line ≡ true → option_map length (split_words line) ≡ Some n → Some (words_left line) ≡ words_of line
+pub line_words : (line : List ℕ) (n : ℕ) → list_all is_printable line ≡ true → option_map length (split_words line) ≡ Some n → Some (words_left line) ≡ words_of_line line
 line_words line n printable h = sym (words_of-printable line printable ∙ words_left-counted line n h)
 
 -- and their bytes are printable
-pub line_words-printable : (line : List ℕ) (words : List (List ℕ)) → Some words ≡ words_of line → All (All IsPrintable) words
+pub line_words-printable : (line : List ℕ) (words : List (List ℕ)) → Some words ≡ words_of_line line → All (All IsPrintable) words
 line_words-printable line words e = subst (λ o. IfSome o (All (All IsPrintable))) (sym e) (words_of-all_printable line)
 
 -- what is known of the first word, if it was found

@@ -9,7 +9,7 @@ use Rattle.std.proofs.lemmas.List.Elements.{All-head, All-weaker, All-from_get_o
 use Rattle.std.proofs.lemmas.List.Sums.{position_or_len_is, fails_before_first, AllPass-from_list_all, list_all-from_AllPass}
 use Rattle.std.proofs.lemmas.List.Quantifiers.{position-Some}
 use Rattle.std.proofs.lemmas.Option.{IfSome_then}
-use Rattle.script_text.specs.Words.{space, quote, IsPrintable, is_printable, is_quote, ends_run, ends_word, word_before, quoted_word, bare_word, first_word, words_within, split_words, words_of, Spells, no_word, space_before, run_before, quoted_before, HasWordsOfRule}
+use Rattle.script_text.specs.Words.{space, quote, IsPrintable, is_printable, is_quote, ends_run, ends_word, word_before, quoted_word, bare_word, first_word, words_within, split_words, words_of_line, Spells, no_word, space_before, run_before, quoted_before, HasWordsOfRule}
 use Rattle.script_text.proofs.Splitting.{word_before_gives, and_then_gives, map_gives, run_goes_on, with_first, split_words-nil, split_words-space, split_words-first, words_of-printable, is_printable-true}
 
 -- the first place that passes a test, after bytes that fail it
@@ -147,8 +147,8 @@ rule_from_words (suc size) (b ∷ rest) =
     (λ first read. map_gives (λ more. first.0 ∷ more) (Spells first.1) (Spells (b ∷ rest)) (words_within size first.1) (rule_from_words size first.1) (λ more s. read more s))))
 
 -- the words of a line are of printable bytes and by the rule
-line_from_words : (line : List ℕ) → IfSome (words_of line) (λ words. All IsPrintable line × Spells line words)
-unfolding words_of split_words
+line_from_words : (line : List ℕ) → IfSome (words_of_line line) (λ words. All IsPrintable line × Spells line words)
+unfolding words_of_line split_words
 line_from_words line =
     cond_both (list_all is_printable line) (split_words line) None (λ o. IfSome o (λ words. All IsPrintable line × Spells line words))
     (λ printable. IfSome_then (words_within (length line) line) (rule_from_words (length line) line)

@@ -3,12 +3,12 @@ use Rattle.std.specs.Prelude.{ℕ, ◌+◌, ◌*◌, ◌/◌, ◌%◌, nat_lt, i
 use Rattle.std.specs.List.{flat_map, range_with_len}
 
 -- a hexadecimal digit, in small letters
-abbrev pub hex_digit : ℕ → ℕ
-hex_digit n = if nat_lt n 10 then 48 + n else 87 + n
+abbrev pub dump_digit : ℕ → ℕ
+dump_digit n = if nat_lt n 10 then 48 + n else 87 + n
 
 -- a byte in two hexadecimal digits
 abbrev pub hex_digits : ℕ → List ℕ
-hex_digits byte = hex_digit (byte / 16) ∷ hex_digit (byte % 16) ∷ []
+hex_digits byte = dump_digit (byte / 16) ∷ dump_digit (byte % 16) ∷ []
 
 -- the line of the sixteen bytes at an offset
 abbrev pub dump_line : ℕ → List ℕ → List ℕ

@@ -9,11 +9,11 @@ abbrev pub IsOpen : List ℕ → Type 0
 IsOpen bytes = list_any (λ byte. byte == line_feed) bytes ≡ false
 
 -- these bytes of the line were read: all of them are held, or they are more than a line may have
-abbrev pub Holds : HeldLine → List ℕ → Type 0
-Holds line bytes = MatchBool line.is_long (line_limit < length bytes) (line.bytes.items ≡ bytes)
+abbrev pub HoldsLine : HeldLine → List ℕ → Type 0
+HoldsLine line bytes = MatchBool line.is_long (line_limit < length bytes) (line.bytes.items ≡ bytes)
 
 -- the text of a raw line is held, without the LF that ended it, or the line is too long
-abbrev pub Says : HeldLine → List ℕ → Type 0
-Says line raw =
+abbrev pub HoldsText : HeldLine → List ℕ → Type 0
+HoldsText line raw =
     MatchBool line.is_long (is_too_long raw ≡ true)
     ((is_too_long raw ≡ false) × (text_of raw ≡ line.bytes.items) × (is_ended line.bytes.items ≡ false))

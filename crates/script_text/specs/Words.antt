@@ -65,8 +65,8 @@ abbrev pub words_left : List ℕ → List (List ℕ)
 words_left text = unwrap_or (split_words text) []
 
 -- the words of a line; None if a byte is not printable or a quote is misplaced
-unfoldable pub words_of : List ℕ → Option (List (List ℕ))
-words_of line = if list_all is_printable line then split_words line else None
+unfoldable pub words_of_line : List ℕ → Option (List (List ℕ))
+words_of_line line = if list_all is_printable line then split_words line else None
 
 -- the rule of words: spaces are skipped, and a word is a run of bytes other than spaces and quotes,
 -- or the part between two quotes, before a space or the line's end
@@ -78,4 +78,4 @@ pub data Spells : List ℕ → List (List ℕ) → Type 0 where
 
 -- the words of a line of printable bytes are those that the rule gives
 abbrev pub HasWordsOfRule : List ℕ → Type 0
-HasWordsOfRule line = (words : List (List ℕ)) → (words_of line ≡ Some words) ↔ (All IsPrintable line × Spells line words)
+HasWordsOfRule line = (words : List (List ℕ)) → (words_of_line line ≡ Some words) ↔ (All IsPrintable line × Spells line words)

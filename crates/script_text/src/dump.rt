@@ -1,7 +1,7 @@
 //! The sixteen lines that show a block.
 ghost use Rattle.std.specs.Prelude.{◌≡◌, ◌+◌, ◌*◌, ◌<◌, ◌≤◌, ◌∷◌, [], ◌++◌, length};
 ghost use Rattle.arrayvec.specs.ArrayVec.{array_vec_len};
-ghost use Rattle.script_text.specs.Dump.{dump, dump_line, hex_digit, hex_digits};
+ghost use Rattle.script_text.specs.Dump.{dump, dump_line, dump_digit, hex_digits};
 
 use arrayvec::ArrayVec;
 

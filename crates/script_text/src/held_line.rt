@@ -3,7 +3,7 @@
 ghost use Rattle.std.specs.Prelude.{◌≡◌, ◌≤◌, ◌++◌, ◌∷◌, [], ◌==◌, ℕ, List, true, false, length, IfSome, MatchOption};
 ghost use Rattle.std.specs.Io.BufRead.{ends_with_byte};
 ghost use Rattle.script_text.specs.RawLines.{is_too_long, line_limit, text_of};
-ghost use Rattle.script_text.specs.HeldLine.{Holds, IsOpen, Says};
+ghost use Rattle.script_text.specs.HeldLine.{HoldsLine, IsOpen, HoldsText};
 
 use crate::raw_lines::LINE_BYTES;
 use arrayvec::ArrayVec;
@@ -19,7 +19,7 @@ pub struct HeldLine {
 impl HeldLine {
     /// A line of which nothing was read.
     pub fn new() -> HeldLine
-        ensures { Holds result [] }
+        ensures { HoldsLine result [] }
     {
         HeldLine {
             bytes: ArrayVec::new(),
@@ -29,7 +29,7 @@ impl HeldLine {
 
     /// Empties the line, for the next one.
     pub fn clear(&mut self)
-        ensures { Holds self.new [] }
+        ensures { HoldsLine self.new [] }
     {
         self.bytes.clear();
         self.is_long = false;
@@ -37,14 +37,14 @@ impl HeldLine {
 
     /// Whether nothing was read of the line.
     pub fn is_empty(&self) -> bool
-        ensures { (before : List ℕ) → Holds self.now before → result ≡ (length before == 0) }
+        ensures { (before : List ℕ) → HoldsLine self.now before → result ≡ (length before == 0) }
     {
         self.bytes.is_empty() && !self.is_long
     }
 
     /// Appends the next bytes of the line.
     pub fn push(&mut self, bytes: &[u8])
-        ensures { (before : List ℕ) → Holds self.old before → Holds self.new (before ++ bytes.now) }
+        ensures { (before : List ℕ) → HoldsLine self.old before → HoldsLine self.new (before ++ bytes.now) }
     {
         if self.bytes.try_extend_from_slice(bytes).is_err() {
             self.is_long = true;
@@ -53,7 +53,7 @@ impl HeldLine {
 
     /// Ends the line with its LF: a CR right before it is not part of the text.
     pub fn end_with_line_feed(&mut self)
-        ensures { (before : List ℕ) → Holds self.old before → IsOpen before → Says self.new (before ++ 10 ∷ []) }
+        ensures { (before : List ℕ) → HoldsLine self.old before → IsOpen before → HoldsText self.new (before ++ 10 ∷ []) }
     {
         if ends_with_carriage_return(self.bytes.as_slice()) {
             let _ = self.bytes.pop();
@@ -62,7 +62,7 @@ impl HeldLine {
 
     /// Ends the line with the end of the script: all of it is text, also a CR at its end.
     pub fn end_with_script(&self)
-        ensures { (before : List ℕ) → Holds self.now before → IsOpen before → Says self.now before }
+        ensures { (before : List ℕ) → HoldsLine self.now before → IsOpen before → HoldsText self.now before }
     {
         let _fits = self.bytes.len() <= LINE_BYTES;
     }
@@ -70,7 +70,7 @@ impl HeldLine {
     /// The text of the line, or None if it is too long.
     pub fn text(&self) -> Option<&[u8]>
         ensures fits { IfSome result (λ text. length text.now ≤ line_limit) }
-        ensures says { (raw : List ℕ) → Says self.now raw → MatchOption result
+        ensures says { (raw : List ℕ) → HoldsText self.now raw → MatchOption result
             (is_too_long raw ≡ true)
             (λ text. (is_too_long raw ≡ false) × (text_of raw ≡ text.now)) }
     {

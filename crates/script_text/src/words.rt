@@ -3,7 +3,7 @@ ghost use Rattle.std.specs.Prelude.{◌≡◌, ◌<◌, ◌≤◌, nat_le, if◌
 ghost use Rattle.std.specs.Iterator.{YieldsFirstRef, item_count};
 ghost use Rattle.std.specs.List.{list_all};
 ghost use Rattle.script_text.specs.RawLines.{line_limit};
-ghost use Rattle.script_text.specs.Words.{IsPrintable, is_printable, is_quote, ends_word, ends_run, first_word, quoted_word, bare_word, word_before, split_words, words_of, HasWordsOfRule};
+ghost use Rattle.script_text.specs.Words.{IsPrintable, is_printable, is_quote, ends_word, ends_run, first_word, quoted_word, bare_word, word_before, split_words, words_of_line, HasWordsOfRule};
 
 use crate::raw_lines::LINE_BYTES;
 use std::marker::Model;
@@ -40,10 +40,10 @@ impl<'a> Words<'a> {
     /// Splits a line into its words, at its spaces. An error comes if the line has more than
     /// `LINE_BYTES` bytes, if a byte is no printable ASCII character, or if a quote neither begins
     /// a word nor ends it. It allocates nothing.
-    #[tactic(auto, unfolding(crate::specs::Words::words_of))]
+    #[tactic(auto, unfolding(crate::specs::Words::words_of_line))]
     pub fn of(line: &'a [u8]) -> Result<Words<'a>, NoWords>
-        ensures words { IfOk result (λ words. Some words ≡ (if nat_le (length line.now) line_limit then words_of line.now else None)) }
-        ensures none { OnErr result (None ≡ (if nat_le (length line.now) line_limit then words_of line.now else None)) }
+        ensures words { IfOk result (λ words. Some words ≡ (if nat_le (length line.now) line_limit then words_of_line line.now else None)) }
+        ensures none { OnErr result (None ≡ (if nat_le (length line.now) line_limit then words_of_line line.now else None)) }
         ensures printable { IfOk result (λ words. All (All IsPrintable) words) }
         ensures len { IfOk result (λ words. length words ≤ MAX_WORDS) }
     {

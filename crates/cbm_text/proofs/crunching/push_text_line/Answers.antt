@@ -4,7 +4,7 @@ use Rattle.std.specs.List.{list_any}
 use Rattle.petscii.specs.TextForm.{IsTextOf}
 use Rattle.cbm_text.specs.Program.{ProgramLine, address_behind}
 use Rattle.cbm_text.specs.Crunching.{Crunched}
-use Rattle.cbm_text.specs.BasicText.{IsOfMemory, HasFault, most_bytes}
+use Rattle.cbm_text.specs.BasicText.{IsBasicOutOfMemory, HasFault, most_bytes}
 use Rattle.cbm_text.specs.Modes.{CrunchesUpTo}
 use Rattle.cbm_text.proofs.TextPrograms.{crunched_short, no_zero_in, line_pushed}
 use Rattle.cbm_text.proofs.crunching.push_text_line.Goals as goal
@@ -12,7 +12,7 @@ use Rattle.cbm_text.proofs.crunching.push_text_line.Goals as goal
 pub returns-in_err-number-clause-fault : goal.returns-in_err-number-clause-fault
 returns-in_err-number-clause-fault c =
     let fault = c.in_err-number.field-0.0 in
-    let told : IsOfMemory fault ⊎ HasFault c.args.at c.args.place c.args.text.now fault = inr (c.in_err-number.ensures c.args.at) in
+    let told : IsBasicOutOfMemory fault ⊎ HasFault c.args.at c.args.place c.args.text.now fault = inr (c.in_err-number.ensures c.args.at) in
     search rules
 
 pub returns-clause-line : goal.returns-clause-line

@@ -1,6 +1,6 @@
 use Rattle.std.proofs.Common.{◌≡◌, ◌∙◌, List, ℕ, ◌++◌, ap, rules}
 use Rattle.std.proofs.lemmas.Result.{IfOk-weaker}
-use Rattle.cmd_diff.specs.Changes.{DumpChange, BlocksChanged, CodesChanged, disk_change, slot_changes, slot_count, where_any, changed_blocks, changed_codes, changes}
+use Rattle.cmd_diff.specs.Changes.{DumpChange, BlocksChanged, CodesChanged, disk_change, slot_changes, slot_count, where_any, differing_blocks, changed_codes, changes}
 use Rattle.cmd_diff.specs.Differences.{printed_changes}
 use Rattle.cmd_diff.proofs.Printed.{bytes_printed, codes_printed, then_printed}
 use Rattle.cmd_diff.proofs.printing.print_changes.Goals as goal
@@ -12,9 +12,9 @@ returns c =
     let old = c.args.old.now in
     let new = c.args.new.now in
     let slots = slot_changes old new (slot_count old new) in
-    let blocks : List DumpChange = where_any BlocksChanged (changed_blocks old.image new.image) in
+    let blocks : List DumpChange = where_any BlocksChanged (differing_blocks old.image new.image) in
     let read : List DumpChange = where_any CodesChanged (changed_codes old new) in
-    let listed : c.as_slice.result.now ≡ changed_blocks old.image new.image = search rules in
+    let listed : c.as_slice.result.now ≡ differing_blocks old.image new.image = search rules in
     let listed_codes : c.as_slice-2.result.now ≡ changed_codes old new = search rules in
     let files = c.in_ok-files.files.items in
     let told_blocks : c.in_ok-blocks.blocks.items ≡ files ++ printed_changes form blocks =

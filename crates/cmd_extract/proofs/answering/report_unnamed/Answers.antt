@@ -5,14 +5,14 @@ use Rattle.program_batch.specs.Reasons.{with_known_reason}
 use Rattle.program_batch.specs.declared.report.Verdict.{Verdict}
 use Rattle.cmd_extract.specs.Setup.{TaskView}
 use Rattle.cmd_extract.specs.Work.{answer_in}
-use Rattle.cmd_extract.specs.FilesNow.{progress_of}
+use Rattle.cmd_extract.specs.FilesNow.{progress_of_files}
 use Rattle.cmd_extract.specs.Unpacking.{unnamed_answer}
 use Rattle.cmd_extract.proofs.Refusing.{refused_with}
 use Rattle.cmd_extract.proofs.answering.report_unnamed.Goals as goal
 
 pub returns : goal.returns
 returns c =
-    subst (λ (t : TaskView). IfOk c.refuse.result (λ (verdict : Verdict). answer_in c.refuse.new.buffer verdict ≡ unnamed_answer t (progress_of c.args.files.now) c.args.reason)) c.task.view_is
+    subst (λ (t : TaskView). IfOk c.refuse.result (λ (verdict : Verdict). answer_in c.refuse.new.buffer verdict ≡ unnamed_answer t (progress_of_files c.args.files.now) c.args.reason)) c.task.view_is
     (refused_with c.refuse.result (answer_in c.refuse.new.buffer) c.task.inside.setup.now _ c.task.inside.name.now (codes "cannot be written") c.swap.new.x.items
     (with_known_reason c.args.reason (c.args.files.now.reported.complaint.items ++ unwritten_line (string_bytes c.task.inside.done))) c.as_bytes-2.ensures.value
     (ap (λ (v : Vec ℕ Global). v.items) c.swap.ensures.x_after ∙ c.in_ok-add_unwritten.ensures

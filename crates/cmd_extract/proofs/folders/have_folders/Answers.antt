@@ -1,6 +1,6 @@
 use Rattle.std.proofs.Common.{◌≡◌, ℕ, ◌+◌, List, ◌++◌, [], None, drop, get_or, refl, ap, ◌∙◌, subst, string_bytes, Bor, arith}
 use Rattle.cmd_extract.specs.Paths.{with_slash}
-use Rattle.cmd_extract.specs.Work.{Says, Folder}
+use Rattle.cmd_extract.specs.Work.{CallReturns, Folder}
 use Rattle.cmd_extract.proofs.Steps.{stops, further, match_not}
 use Rattle.cmd_extract.proofs.FolderSteps.{texts, next_folder, no_folder, had_folder, lacked_folder, had_all}
 use Rattle.cmd_extract.proofs.folders.have_folders.Goals as goal
@@ -19,7 +19,7 @@ returns-then-not-have_folder g c = λ rest.
     let path = string_bytes c.push_str.new.self in
     let old = g.H.Host.state c.loop-folder.host in
     let now = g.H.Host.state c.have_folder.new.host in
-    let says : Says (Folder path) old c.have_folder.result now = subst (λ (p : List ℕ). Says (Folder p) old c.have_folder.result now) c.deref.ensures c.have_folder.ensures in
+    let says : CallReturns (Folder path) old c.have_folder.result now = subst (λ (p : List ℕ). CallReturns (Folder p) old c.have_folder.result now) c.deref.ensures c.have_folder.ensures in
     further _ _ _ _ _ _ (c.loop-folder.invariant rest)
     (lacked_folder rest (string_bytes c.loop-folder.place) (get_or folders k nowhere).now path (texts (drop (k + 1) folders)) (texts (drop k folders)) old now c.have_folder.result
     (next_folder folders k nowhere c.loop-folder-test.true) c.in_ok-push_str.ensures.bytes says c.if-not-have_folder.true)
@@ -31,7 +31,7 @@ returns-in_err-push g c = λ rest.
     let path = string_bytes c.push_str.new.self in
     let old = g.H.Host.state c.loop-folder.host in
     let now = g.H.Host.state c.have_folder.new.host in
-    let says : Says (Folder path) old c.have_folder.result now = subst (λ (p : List ℕ). Says (Folder p) old c.have_folder.result now) c.deref.ensures c.have_folder.ensures in
+    let says : CallReturns (Folder path) old c.have_folder.result now = subst (λ (p : List ℕ). CallReturns (Folder p) old c.have_folder.result now) c.deref.ensures c.have_folder.ensures in
     match_not c.from_residual-in_err-push.result _ _ c.from_residual-in_err-push.ensures.0
     (c.loop-folder.invariant rest None now
     (had_folder rest (string_bytes c.loop-folder.place) (get_or folders k nowhere).now path (with_slash path) (texts (drop (k + 1) folders)) (texts (drop k folders)) old now c.have_folder.result
@@ -44,7 +44,7 @@ loop-folder-preserved g c = λ rest.
     let path = string_bytes c.push_str.new.self in
     let old = g.H.Host.state c.loop-folder.host in
     let now = g.H.Host.state c.have_folder.new.host in
-    let says : Says (Folder path) old c.have_folder.result now = subst (λ (p : List ℕ). Says (Folder p) old c.have_folder.result now) c.deref.ensures c.have_folder.ensures in
+    let says : CallReturns (Folder path) old c.have_folder.result now = subst (λ (p : List ℕ). CallReturns (Folder p) old c.have_folder.result now) c.deref.ensures c.have_folder.ensures in
     let slashed : string_bytes c.push.new.self ≡ with_slash path =
     c.in_ok-push.ensures.bytes ∙ ap (λ (e : List ℕ). path ++ e) (c.in_ok-push.ensures.ascii (omega arith)) in
     further _ _ _ _ _ _ (c.loop-folder.invariant rest)

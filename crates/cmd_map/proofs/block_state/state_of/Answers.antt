@@ -3,7 +3,7 @@ use Rattle.std.specs.FinSet as set
 use Rattle.d64_map.specs.Map.{free_blocks}
 use Rattle.d64_survey.specs.Owners.{owners_of}
 use Rattle.d64_survey.specs.declared.owner.Owner.{Owner}
-use Rattle.cmd_map.specs.States.{is_unreadable, state_of}
+use Rattle.cmd_map.specs.States.{is_unreadable, state_of_block}
 use Rattle.cmd_map.proofs.StateRules.{ruled, state-unreadable, state-none, state-one, state-more, ruled-one}
 use Rattle.cmd_map.proofs.block_state.state_of.Goals as goal
 

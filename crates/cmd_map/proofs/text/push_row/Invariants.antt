@@ -1,8 +1,8 @@
 use Rattle.std.proofs.Common.{◌≡◌, ◌++◌, take}
 use Rattle.std.specs.List.{flat_map}
 use Rattle.d64_map.specs.Track.{blocks_on}
-use Rattle.cmd_map.specs.States.{state_of, mark}
+use Rattle.cmd_map.specs.States.{state_of_block, state_mark}
 use Rattle.cmd_map.proofs.text.push_row.Given as goal
 
 abbrev pub invariant-loop-sector : goal.invariant-loop-sector
-invariant-loop-sector l = l.out.items ≡ l.initial.out.items ++ flat_map (λ block. mark (state_of l.inspection block)) (take l.sector (blocks_on l.track))
+invariant-loop-sector l = l.out.items ≡ l.initial.out.items ++ flat_map (λ block. state_mark (state_of_block l.inspection block)) (take l.sector (blocks_on l.track))

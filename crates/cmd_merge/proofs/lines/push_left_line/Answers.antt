@@ -2,7 +2,7 @@ use Rattle.std.proofs.Common.{◌≡◌, ◌∙◌, ◌++◌, ℕ, List, ap, cod
 use Rattle.std.proofs.lemmas.Result.{on_ok_weaker}
 use Rattle.std.specs.Prelude.{decimal, OnOk}
 use Rattle.std.specs.List.{flat_map}
-use Rattle.d64_merge.specs.Merged.{count_of}
+use Rattle.d64_merge.specs.Merged.{outcome_count}
 use Rattle.d64_merge.specs.declared.outcome.Outcome.{Outcome}
 use Rattle.d64_merge.specs.declared.outcome.Outcome.TheVariants.{Same, Taken, Lost, Majority, First, Conflict}
 use Rattle.cmd_merge.proofs.Joined.{three, four}

@@ -2,7 +2,7 @@ use Rattle.std.proofs.Common.{◌≡◌, ◌∙◌, ◌++◌, ℕ, List, ap, cod
 use Rattle.std.proofs.lemmas.Result.{on_ok_weaker}
 use Rattle.std.specs.Prelude.{decimal}
 use Rattle.std.specs.List.{flat_map}
-use Rattle.d64_merge.specs.Merged.{count_of}
+use Rattle.d64_merge.specs.Merged.{outcome_count}
 use Rattle.d64_merge.specs.declared.outcome.Outcome.{Outcome}
 use Rattle.d64_merge.specs.declared.outcome.Outcome.TheVariants.{Same, Taken, Lost, Majority, First, Conflict}
 use Rattle.cmd_merge.proofs.Joined.{three, four}
@@ -17,10 +17,10 @@ returns c =
     let one = c.push_number.new.out.items in
     let second = c.extend_from_slice.new.self.items in
     let third = c.push_if_any.new.out.items in
-    let by : Outcome → List ℕ → List ℕ = λ outcome word. count_if_any (count_of outcome list) word in
-    let a : one ≡ old ++ decimal (count_of Same list) = c.in_ok-push_number.ensures ∙ ap (λ (n : ℕ). old ++ decimal n) c.count_of.ensures.count in
+    let by : Outcome → List ℕ → List ℕ = λ outcome word. count_if_any (outcome_count outcome list) word in
+    let a : one ≡ old ++ decimal (outcome_count Same list) = c.in_ok-push_number.ensures ∙ ap (λ (n : ℕ). old ++ decimal n) c.count_of.ensures.count in
     let b : second ≡ one ++ codes " the same in all dumps" = c.in_ok-extend_from_slice.ensures.items in
     let d : third ≡ second ++ by Taken (codes " taken") = c.in_ok-push_if_any.ensures ∙ ap (λ (n : ℕ). second ++ count_if_any n (codes " taken")) c.count_of-2.ensures.count in
     on_ok_weaker c.push_if_any-2.result
-    (λ ends. four old (decimal (count_of Same list)) (codes " the same in all dumps") (by Taken (codes " taken")) (by Lost (codes " lost")) one second third c.push_if_any-2.new.out.items a b d
+    (λ ends. four old (decimal (outcome_count Same list)) (codes " the same in all dumps") (by Taken (codes " taken")) (by Lost (codes " lost")) one second third c.push_if_any-2.new.out.items a b d
     (ends ∙ ap (λ (n : ℕ). third ++ count_if_any n (codes " lost")) c.count_of-3.ensures.count)) c.push_if_any-2.ensures

@@ -1,7 +1,7 @@
 use Rattle.std.proofs.Common.{◌≡◌, ℕ, List, Some, None, sym, ap, ◌∙◌, subst, rules}
 use Rattle.std.specs.Prelude.{IfOk}
 use Rattle.d64_files.specs.Directory.{slots, entries}
-use Rattle.d64_files.specs.Reading.{refused_by}
+use Rattle.d64_files.specs.Reading.{read_refused_by}
 use Rattle.d64_files.specs.declared.reading.ReadFault.TheVariants.{Directory}
 use Rattle.d64_files.proofs.Contents.{refused_directory, refused_slot, found_bytes, no_bytes, content_of_bytes}
 use Rattle.d64_files.proofs.reading.content.Goals as goal
@@ -9,7 +9,7 @@ use Rattle.d64_files.proofs.reading.content.Goals as goal
 pub returns-in_err-directory-clause-refused : goal.returns-in_err-directory-clause-refused
 returns-in_err-directory-clause-refused c =
     let fault = c.in_err-directory.field-0.0 in
-    let told : refused_by c.from_residual.result ≡ Some (Directory fault) = search rules in
+    let told : read_refused_by c.from_residual.result ≡ Some (Directory fault) = search rules in
     told ∙ refused_directory c.args.image.now c.args.slot fault c.in_err-directory.ensures.conditions
 
 pub returns-in-None-clause-refused : goal.returns-in-None-clause-refused

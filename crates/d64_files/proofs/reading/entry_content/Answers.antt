@@ -1,14 +1,14 @@
 use Rattle.std.proofs.Common.{◌≡◌, None, ap, sym, ◌∙◌, subst, rules}
 use Rattle.d64_files.specs.Chain.{LieIn}
 use Rattle.d64_files.specs.FileData.{data_along}
-use Rattle.d64_files.specs.Reading.{refused_by}
+use Rattle.d64_files.specs.Reading.{read_refused_by}
 use Rattle.d64_files.specs.Slot.{first_pair}
 use Rattle.d64_files.proofs.Chains.{chain_from-lies}
 use Rattle.d64_files.proofs.reading.entry_content.Goals as goal
 
 pub returns-in_err-data_along-clause-refused : goal.returns-in_err-data_along-clause-refused
 returns-in_err-data_along-clause-refused c =
-    let wants_memory : refused_by c.from_residual-in_err-data_along.result ≡ None = search rules in wants_memory ∙ c.in_ok-blocks.ensures.refused
+    let wants_memory : read_refused_by c.from_residual-in_err-data_along.result ≡ None = search rules in wants_memory ∙ c.in_ok-blocks.ensures.refused
 
 pub returns-clause-bytes : goal.returns-clause-bytes
 returns-clause-bytes c =

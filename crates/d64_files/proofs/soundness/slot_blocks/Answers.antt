@@ -2,7 +2,7 @@ use Rattle.std.proofs.Common.{ℕ, ◌≤◌, List, Some, None, sym, ap, ◌∙�
 use Rattle.std.specs.Ordering.{nat_cmp}
 use Rattle.std.specs.FinSet as set
 use Rattle.d64_files.specs.Ownership.{HasItsChains}
-use Rattle.d64_files.specs.Directory.{slots, entries, number_of}
+use Rattle.d64_files.specs.Directory.{slots, entries, condition_number}
 use Rattle.d64_files.specs.declared.dir_fault.DirFault.TheVariants.{NoChain}
 use Rattle.d64_files.proofs.Contents.{found_bytes, no_bytes, slot_has, owns_by_bytes}
 use Rattle.d64_files.proofs.soundness.slot_blocks.Goals as goal
@@ -10,8 +10,8 @@ use Rattle.d64_files.proofs.soundness.slot_blocks.Goals as goal
 pub returns-in-Err : goal.returns-in-Err
 returns-in-Err c =
     let f = c.in-Err.ensures.conditions in
-    let from : 2 ≤ number_of c.in-Err.field-0 = f.not_before in
-    let to : number_of c.in-Err.field-0 ≤ 3 = f.not_after in
+    let from : 2 ≤ condition_number c.in-Err.field-0 = f.not_before in
+    let to : condition_number c.in-Err.field-0 ≤ 3 = f.not_after in
     absurd (f.fails (c.requires c.in-Err.field-0 (omega arith) (omega arith)))
 
 pub blocks_of-requires : goal.blocks_of-requires

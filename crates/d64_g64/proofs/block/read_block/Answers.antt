@@ -1,7 +1,7 @@
 use Rattle.std.proofs.Common.{◌≡◌, length, refl, sym, ◌∙◌}
 use Rattle.std.specs.List.{find}
 use Rattle.d64_g64.specs.Starts.{starts_on, start_pairs}
-use Rattle.d64_g64.specs.Headers.{names}
+use Rattle.d64_g64.specs.Headers.{names_block}
 use Rattle.d64_g64.specs.Blocks.{names_readable, bytes_behind}
 use Rattle.d64_g64.proofs.HeaderSearches.{code_without, bytes_without, good_block, no_good, first_block}
 use Rattle.d64_g64.proofs.block.read_block.Goals as goal
@@ -28,5 +28,5 @@ returns-else-read_good c =
     let some : length (starts_on track) ≡ 0 → ⊥ = λ none. c.if-count_starts-eq0.false (c.count_starts.ensures ∙ none) in
     let found = find (names_readable c.args.id track c.args.number c.args.sector) (start_pairs track) in
     let none = no_good c.read_good.result found (λ pair. c.read_good.new.block ≡ bytes_behind track pair.1) c.if-read_good.false c.read_good.ensures in
-    let both = first_block c.args.id track c.args.number c.args.sector c.read_first.result c.read_first.new.block (find (names track c.args.number c.args.sector) (start_pairs track)) none refl some c.read_first.ensures in
+    let both = first_block c.args.id track c.args.number c.args.sector c.read_first.result c.read_first.new.block (find (names_block track c.args.number c.args.sector) (start_pairs track)) none refl some c.read_first.ensures in
     record { code = both.0; bytes = both.1 }

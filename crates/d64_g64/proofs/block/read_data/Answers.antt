@@ -4,7 +4,7 @@ use Rattle.std.specs.List.{range_with_len, list_all}
 use Rattle.std.proofs.Math.Seq.{take-length}
 use Rattle.std.proofs.lemmas.List.{length-set}
 use Rattle.d64_g64.specs.Codes.{value_at, value_or_zero, is_value}
-use Rattle.d64_g64.specs.Blocks.{data_bytes, is_whole}
+use Rattle.d64_g64.specs.Blocks.{data_bytes, is_whole_block}
 use Rattle.d64_g64.proofs.DataBlocks.{bytes_more, sum_more, all_more}
 use Rattle.d64_g64.proofs.block.read_data.Goals as goal
 
@@ -25,7 +25,7 @@ loop-k-preserved c =
     }
 
 pub returns : goal.returns
-unfolding data_bytes is_whole
+unfolding data_bytes is_whole_block
 returns c =
     let track = c.args.start.now.track in
     let start = c.args.start.now.place in

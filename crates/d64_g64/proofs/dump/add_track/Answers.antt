@@ -1,7 +1,7 @@
 use Rattle.std.proofs.Common.{◌≡◌, ℕ, ◌+◌, ◌<◌, min, Option, List, [], ◌∷◌, ◌++◌, sym, ap, ap₂, ◌∙◌, arith}
 use Rattle.d64_image.specs.Block.{sectors_on, first_block}
 use Rattle.d64_image.specs.Image.{bytes_of as image_bytes}
-use Rattle.d64_g64.specs.Blocks.{code_of, bytes_of}
+use Rattle.d64_g64.specs.Blocks.{block_code_of, block_bytes_of}
 use Rattle.d64_g64.specs.Dump.{block_code, block_bytes, first_codes, first_blocks}
 use Rattle.d64_g64.proofs.DumpBlocks.{code_is, bytes_are, codes_more, blocks_more, has_sector, lacks_sector, sector_more, sector_of, sector_past, few_sectors, next_track}
 use Rattle.d64_g64.proofs.dump.add_track.Goals as goal
@@ -20,10 +20,10 @@ loop-sector-preserved c =
           let here = sector_of number sector within in
           record {
             codes = ap (λ b. b.codes.items) w.blocks-is ∙ w.in_ok-push_block-in-Some.ensures.codes
-                ∙ ap₂ (λ (xs : List ℕ) (x : ℕ). xs ++ x ∷ []) c.loop-sector.invariant.codes (w.read_block-code.ensures.code ∙ ap₂ (λ (id : Option (ℕ × ℕ)) (xs : List ℕ). code_of id xs number sector) c.requires.id c.in_ok-track.ensures ∙ code_is file number sector c.requires.number.0 c.requires.number.1 within ∙ ap (block_code file) (sym here))
+                ∙ ap₂ (λ (xs : List ℕ) (x : ℕ). xs ++ x ∷ []) c.loop-sector.invariant.codes (w.read_block-code.ensures.code ∙ ap₂ (λ (id : Option (ℕ × ℕ)) (xs : List ℕ). block_code_of id xs number sector) c.requires.id c.in_ok-track.ensures ∙ code_is file number sector c.requires.number.0 c.requires.number.1 within ∙ ap (block_code file) (sym here))
                 ∙ sym (ap (first_codes file) more ∙ codes_more file place);
             bytes = ap (λ b. b.bytes.items) w.blocks-is ∙ w.in_ok-push_block-in-Some.ensures.bytes
-                ∙ ap₂ (λ (xs ys : List ℕ). xs ++ ys) c.loop-sector.invariant.bytes (w.read_block-code.ensures.bytes ∙ ap₂ (λ (id : Option (ℕ × ℕ)) (xs : List ℕ). bytes_of id xs number sector) c.requires.id c.in_ok-track.ensures ∙ bytes_are file number sector c.requires.number.0 c.requires.number.1 within ∙ ap (block_bytes file) (sym here))
+                ∙ ap₂ (λ (xs ys : List ℕ). xs ++ ys) c.loop-sector.invariant.bytes (w.read_block-code.ensures.bytes ∙ ap₂ (λ (id : Option (ℕ × ℕ)) (xs : List ℕ). block_bytes_of id xs number sector) c.requires.id c.in_ok-track.ensures ∙ bytes_are file number sector c.requires.number.0 c.requires.number.1 within ∙ ap (block_bytes file) (sym here))
                 ∙ sym (ap (λ (n : ℕ). image_bytes (first_blocks file n)) more ∙ blocks_more file place);
           }
       | in-None w ↦

@@ -1,6 +1,6 @@
 use Rattle.std.proofs.Common.{◌≡◌, ◌++◌, ◌∷◌, [], List, sym, ap, subst}
 use Rattle.std.specs.Prelude.{MatchOption}
-use Rattle.d64_leftovers.specs.Sources.{SourceView, rows_from, orphans_from}
+use Rattle.d64_leftovers.specs.Sources.{SourceView, wanted_rows_from, orphans_from}
 use Rattle.d64_leftovers.specs.declared.row.Row.{Row}
 use Rattle.d64_leftovers.proofs.row_list.first_step.Goals as goal
 
@@ -11,8 +11,8 @@ pub returns-in-None-clause-found : goal.returns-in-None-clause-found
 returns-in-None-clause-found c =
     let source = c.args.source.now in
     subst (λ (rows : List Row). MatchOption c.orphan_step.result (rows ++ orphans_from source c.args.left ≡ [])
-    (λ step. rows ++ orphans_from source c.args.left ≡ step.row ∷ (rows_from source step.slot ++ orphans_from source step.left)))
+    (λ step. rows ++ orphans_from source c.args.left ≡ step.row ∷ (wanted_rows_from source step.slot ++ orphans_from source step.left)))
     (sym c.in-None.ensures.found)
     (subst (λ (s : SourceView). MatchOption c.orphan_step.result (orphans_from s c.args.left ≡ [])
-    (λ step. orphans_from s c.args.left ≡ step.row ∷ (rows_from s step.slot ++ orphans_from s step.left)))
+    (λ step. orphans_from s c.args.left ≡ step.row ∷ (wanted_rows_from s step.slot ++ orphans_from s step.left)))
     c.first_from.ensures.same c.orphan_step.ensures.found)

@@ -1,7 +1,7 @@
 use Rattle.std.proofs.Common.{◌≡◌, ◌≤◌, ◌++◌, [], ◌∷◌, List, ℕ, length, refl, sym, subst, ap, ◌∙◌}
 use Rattle.host_names.specs.declared.taken_names.Taken.{Taken}
-use Rattle.host_names.specs.Digest.{digest_of}
-use Rattle.host_names.specs.Records.{names_of, EndsAt, AreRecords}
+use Rattle.host_names.specs.Digest.{name_digest}
+use Rattle.host_names.specs.Records.{names_of, HasEndingAt, AreNameRecords}
 use Rattle.host_names.proofs.Records.{kept_names, kept_records}
 use Rattle.host_names.proofs.taken_names.keep.Goals as goal
 
@@ -15,7 +15,7 @@ pub returns-clause-records : goal.returns-clause-records
 returns-clause-records c =
     let taken : Taken = record { name = c.in_ok-kept.kept; digest = c.digest.result; stem_len = c.args.stem_len; next = 2 } in
     let is : c.args.name.now ≡ c.in_ok-kept.kept.items = sym c.in_ok-kept.ensures.items in
-    subst (λ (records : List Taken). AreRecords records) (sym {A = List Taken} c.in_ok-push.ensures.items)
-    (kept_records c.args.names.now.items taken c.requires.records (c.digest.ensures ∙ ap digest_of is)
+    subst (λ (records : List Taken). AreNameRecords records) (sym {A = List Taken} c.in_ok-push.ensures.items)
+    (kept_records c.args.names.now.items taken c.requires.records (c.digest.ensures ∙ ap name_digest is)
     (subst (λ (name : List ℕ). c.args.stem_len ≤ length name) is c.requires.within)
-    (subst (λ (name : List ℕ). EndsAt name c.args.stem_len) is c.requires.ends) refl)
+    (subst (λ (name : List ℕ). HasEndingAt name c.args.stem_len) is c.requires.ends) refl)

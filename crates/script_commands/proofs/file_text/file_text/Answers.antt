@@ -1,6 +1,6 @@
 use Rattle.std.proofs.Common.{◌≡◌, ℕ, ◌++◌, ◌<◌, ◌≤◌, true, false, List, length, drop, get_or, subst, sym, ap, ◌∙◌, append-nil, arith, rules}
 use Rattle.std.proofs.lemmas.List.{drop_more, drop_all}
-use Rattle.script_commands.specs.FileText.{file_text}
+use Rattle.script_commands.specs.FileText.{typed_text}
 use Rattle.script_commands.proofs.FileTexts.{text_after, text_after-begin, one_more, at_end}
 use Rattle.script_commands.proofs.file_text.file_text.Goals as goal
 use Rattle.script_commands.proofs.file_text.file_text.Goals.{then-is_open+in_ok-push, else-is_open}
@@ -27,10 +27,10 @@ returns c =
           let is_open : c.loop-byte.is_open ≡ true = search rules in
           ap (λ text. text.items) w.text-is ∙ w.in_ok-push.ensures.items
           ∙ at_end true c.loop-byte.text.items content place none
-          (subst (λ begun. c.loop-byte.text.items ++ text_after begun (drop place content) ≡ file_text content) is_open c.loop-byte.invariant)
+          (subst (λ begun. c.loop-byte.text.items ++ text_after begun (drop place content) ≡ typed_text content) is_open c.loop-byte.invariant)
       | else-is_open w ↦
           let is_closed : c.loop-byte.is_open ≡ false = search rules in
           ap (λ text. text.items) w.text-is ∙ sym (append-nil c.loop-byte.text.items)
           ∙ at_end false c.loop-byte.text.items content place none
-          (subst (λ begun. c.loop-byte.text.items ++ text_after begun (drop place content) ≡ file_text content) is_closed c.loop-byte.invariant)
+          (subst (λ begun. c.loop-byte.text.items ++ text_after begun (drop place content) ≡ typed_text content) is_closed c.loop-byte.invariant)
     ]

@@ -3,7 +3,7 @@ use Rattle.std.proofs.lemmas.Str.{IsUtf8-from_ascii}
 use Rattle.std.proofs.lemmas.Str.Ascii.{IsAscii-from_all}
 use Rattle.petscii.specs.Spelling.{spelling}
 use Rattle.d64_dos.specs.Reading.{read_refusal}
-use Rattle.script_commands.specs.FoundFile.{found_name, found_content, is_file_name}
+use Rattle.script_commands.specs.FoundFile.{found_name, found_content, can_name_file}
 use Rattle.d64_undo.specs.History.{present_image}
 use Rattle.script_text.specs.declared.status.Status.TheVariants.{BadName}
 use Rattle.script_commands.proofs.Acts.{Does-given, Does-refuse, Does-refuse_by}
@@ -21,7 +21,7 @@ returns-then-not-is_file_name g c =
     let text : c.in_ok-name.name.items ≡ spelling (found_name (present_image history) pattern) =
     c.in_ok-name.ensures.spelled ∙ ap spelling (c.as_slice.ensures.value ∙ found_name-read (present_image history) pattern c.in_ok-file.file.name.items c.in_ok-file.file.bytes.items back) in
     let fails : c.is_file_name.result ≡ false = search rules in
-    let no_name : false ≡ is_file_name (spelling (found_name (present_image history) pattern)) = sym fails ∙ c.is_file_name.ensures ∙ ap is_file_name (c.as_slice-3.ensures.value ∙ text) in
+    let no_name : false ≡ can_name_file (spelling (found_name (present_image history) pattern)) = sym fails ∙ c.is_file_name.ensures ∙ ap can_name_file (c.as_slice-3.ensures.value ∙ text) in
     Does-refuse_by _ _ _ _ _ refused (Does-given _ _ [] old old history _ _ (refl, refl) (rw (← no_name) (Does-refuse BadName _)))
 
 pub unwrap-name-requires : goal.unwrap-name-requires
@@ -47,7 +47,7 @@ returns g c =
     let bytes : c.as_slice-5.result.now ≡ found_content (present_image history) pattern =
     c.as_slice-5.ensures.value ∙ found_content-read (present_image history) pattern c.in_ok-file.file.name.items c.in_ok-file.file.bytes.items back in
     let passes : c.is_file_name.result ≡ true = search rules in
-    let names : true ≡ is_file_name (spelling (found_name (present_image history) pattern)) = sym passes ∙ c.is_file_name.ensures ∙ ap is_file_name (c.as_slice-3.ensures.value ∙ text) in
+    let names : true ≡ can_name_file (spelling (found_name (present_image history) pattern)) = sym passes ∙ c.is_file_name.ensures ∙ ap can_name_file (c.as_slice-3.ensures.value ∙ text) in
     Does-refuse_by _ _ _ _ _ refused
     (Does-given _ _ [] old old history _ _ (refl, refl)
     (rw (← names) (rw (name, bytes) at (c.store.ensures history))))

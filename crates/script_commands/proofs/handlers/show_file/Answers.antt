@@ -2,7 +2,7 @@ use Rattle.std.proofs.Common.{◌≡◌, ◌∙◌, ℕ, List, [], None, Ok, fal
 use Rattle.d64_dos.specs.Reading.{read_refusal}
 use Rattle.script_text.specs.declared.status.Status.TheVariants.{Done}
 use Rattle.script_commands.specs.Act.{Room, Does, LineAnswer, World}
-use Rattle.script_commands.specs.FileText.{file_text}
+use Rattle.script_commands.specs.FileText.{typed_text}
 use Rattle.script_commands.specs.FoundFile.{found_content}
 use Rattle.script_commands.specs.Line.{show, show_file}
 use Rattle.d64_undo.specs.History.{present_image}
@@ -19,8 +19,8 @@ returns c = λ host.
     let refused : None ≡ read_refusal (present_image history) pattern = rw (c.image.ensures.present, got) at c.read.ensures.refused in
     let bytes : c.as_slice.result.now ≡ found_content (present_image history) pattern =
     c.as_slice.ensures.value ∙ found_content-read (present_image history) pattern _ _ (rw (c.image.ensures.present, got) at c.read.ensures.back) in
-    let text : List ℕ = file_text (found_content (present_image history) pattern) in
-    let is : c.in_ok-text.text.items ≡ text = c.in_ok-text.ensures ∙ ap file_text bytes in
+    let text : List ℕ = typed_text (found_content (present_image history) pattern) in
+    let is : c.in_ok-text.text.items ≡ text = c.in_ok-text.ensures ∙ ap typed_text bytes in
     let world : World = record { host = host; history = history } in
     let answer : LineAnswer = record { output = text; status = Done; closes = false } in
     let shown : Does (show text history) world answer world = (refl, refl) in

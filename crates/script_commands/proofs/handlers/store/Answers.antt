@@ -1,5 +1,5 @@
 use Rattle.std.proofs.Common.{[], Ok, Err, refl}
-use Rattle.script_commands.specs.Act.{Does, Store, Gives, World}
+use Rattle.script_commands.specs.Act.{Does, Store, CallGives, World}
 use Rattle.d64_undo.specs.History.{present_image}
 use Rattle.script_commands.specs.Line.{leave}
 use Rattle.script_commands.specs.Response.{shown_answer}
@@ -12,7 +12,7 @@ returns-in-Ok g c = λ history.
     let old = g.H.Host.state c.args.host.now in
     let new = g.H.Host.state c.store.new.self in
     let after : World = record { host = new; history = history } in
-    let gives : Gives (Store c.args.name.now c.args.bytes.now) old (Ok []) new =
+    let gives : CallGives (Store c.args.name.now c.args.bytes.now) old (Ok []) new =
     (Ok tt, record { answer = c.in-Ok.ensures.stored; counted = c.in-Ok.ensures.counted }, refl) in
     let done : Does (leave history) after (shown_answer (present_image history) c.plain.result) after = (c.plain.ensures (present_image history), refl) in
     Does-given (Store c.args.name.now c.args.bytes.now) (λ stored. leave history) [] old new history (shown_answer (present_image history) c.plain.result) after gives done

@@ -1,6 +1,6 @@
 use Rattle.std.proofs.Common.{◌∙◌}
 use Rattle.cmd_extract.specs.Progress.{unput_progress}
-use Rattle.cmd_extract.specs.FilesNow.{progress_of}
+use Rattle.cmd_extract.specs.FilesNow.{progress_of_files}
 use Rattle.cmd_extract.specs.Unpacking.{after_putting}
 use Rattle.cmd_extract.proofs.Steps.{comes_to}
 use Rattle.cmd_extract.proofs.ListSteps.{piece_unput, unput_said}
@@ -8,7 +8,7 @@ use Rattle.cmd_extract.proofs.files.Files.end_piece.Goals as goal
 
 pub returns : goal.returns
 returns g c = λ task rest path_is.
-    let p = progress_of c.args.self.now in
+    let p = progress_of_files c.args.self.now in
     let host = g.H.Host.state c.args.host.now in
     let reason = c.reason_at-reason.result in
     comes_to c.report_failure.result (after_putting task p rest c.args.is_put) rest host host _ (unput_progress task reason p)

@@ -1,6 +1,6 @@
 use Rattle.std.proofs.Common.{◌≡◌, rules, List, ℕ, sym, ◌∙◌, subst}
 use Rattle.cmd_extract.specs.Paths.{list_path}
-use Rattle.cmd_extract.specs.FilesNow.{progress_of}
+use Rattle.cmd_extract.specs.FilesNow.{progress_of_files}
 use Rattle.cmd_extract.specs.Work.{LeadsTo}
 use Rattle.cmd_extract.specs.Unpacking.{after_putting, put_work}
 use Rattle.cmd_extract.proofs.Steps.{stops, comes_further, comes_not}
@@ -13,7 +13,7 @@ returns-in_err-put_path g c = λ rest. comes_not c.from_residual.result _ _ _ _ 
 pub returns-in-New : goal.returns-in-New
 returns-in-New g c = λ rest.
     let task = c.args.task.now in
-    let p = progress_of c.args.self.now in
+    let p = progress_of_files c.args.self.now in
     let old = g.H.Host.state c.args.host.now in
     let now = g.H.Host.state c.make_file-is_put.new.host in
     let path_is : c.put_path.new.path.items ≡ list_path task = search rules in
@@ -25,7 +25,7 @@ returns-in-New g c = λ rest.
 pub returns-in-Begun : goal.returns-in-Begun
 returns-in-Begun g c = λ rest.
     let task = c.args.task.now in
-    let p = progress_of c.args.self.now in
+    let p = progress_of_files c.args.self.now in
     let old = g.H.Host.state c.args.host.now in
     let now = g.H.Host.state c.extend_file-is_put.new.host in
     let path_is : c.put_path.new.path.items ≡ list_path task = search rules in
@@ -37,7 +37,7 @@ returns-in-Begun g c = λ rest.
 pub returns-in-GivenUp : goal.returns-in-GivenUp
 returns-in-GivenUp g c = λ rest.
     let task = c.args.task.now in
-    let p = progress_of c.args.self.now in
+    let p = progress_of_files c.args.self.now in
     let list = c.args.self.now.reported.list in
     let host = g.H.Host.state c.args.host.now in
     subst (λ (l : List ℕ). LeadsTo (put_work list task p rest) host (rest (record p { lines = l })) host) (sym c.clear.ensures.items) (put_none task p rest list host c.in-GivenUp.is)

@@ -4,7 +4,7 @@ use Rattle.cmd_extract_contents.specs.Limits.{left_after, portion_within}
 use Rattle.cmd_extract_contents.specs.declared.extent.Extent.{Extent}
 use Rattle.cmd_extract.specs.Work.{Work, Comes, LeadsTo}
 use Rattle.cmd_extract.specs.Progress.{portion_of, spent_progress, named_progress, reported_progress}
-use Rattle.cmd_extract.specs.FilesNow.{progress_of}
+use Rattle.cmd_extract.specs.FilesNow.{progress_of_files}
 use Rattle.cmd_extract.specs.Unpacking.{file_work}
 use Rattle.cmd_extract.proofs.Steps.{stops, comes_to, comes_not, nothing_yet}
 use Rattle.cmd_extract.proofs.FileSteps.{portion_same, file_some, file_none, reported_none}
@@ -21,7 +21,7 @@ pub returns-in_ok-name_file-in-Some : goal.returns-in_ok-name_file-in-Some
 returns-in_ok-name_file-in-Some g c = λ rest.
     let task = c.args.task.now in
     let row = c.args.row.now in
-    let p = progress_of c.args.self.now in
+    let p = progress_of_files c.args.self.now in
     let left = c.args.self.now.extraction in
     let file = c.name_file.new.name.items in
     let is_parts : c.setup.inside.with_parts ≡ task.setup.with_parts = search rules in
@@ -30,10 +30,10 @@ returns-in_ok-name_file-in-Some g c = λ rest.
     let found : Some (record { bytes = c.next_row.new.bytes.items; extent = c.in-Some.extent }) ≡ portion_within left (portion_of task row) =
     ap (option_map (λ (e : Extent). record { bytes = c.next_row.new.bytes.items; extent = e })) (sym c.in-Some.is) ∙ c.in_ok-extent.ensures.written ∙ ap (portion_within left) same in
     let left_is : c.next_row.new.self ≡ left_after left (portion_of task row) = c.in_ok-extent.ensures.left ∙ ap (left_after left) same in
-    let now = progress_of (record c.args.self.now { extraction = c.next_row.new.self; taken = c.name_file.new.taken }) in
+    let now = progress_of_files (record c.args.self.now { extraction = c.next_row.new.self; taken = c.name_file.new.taken }) in
     let now_is : now ≡ named_progress file (spent_progress task row p) =
     ap₂ (λ (l : Option ℕ) (t : List (List ℕ)). record p { left = l; taken = t }) left_is c.in_ok-name_file-in-Some.ensures.taken in
-    subst (λ (w : Work). Comes c.write_file.result w (g.H.Host.state c.args.host.now) (rest (progress_of c.write_file.new.self)) (g.H.Host.state c.write_file.new.host))
+    subst (λ (w : Work). Comes c.write_file.result w (g.H.Host.state c.args.host.now) (rest (progress_of_files c.write_file.new.self)) (g.H.Host.state c.write_file.new.host))
     (file_some task row (spent_progress task row p) now c.next_row.new.bytes.items file c.in-Some.extent (portion_within left (portion_of task row)) rest found c.in_ok-name_file-in-Some.ensures.name now_is)
     (c.write_file.ensures rest)
 
@@ -41,7 +41,7 @@ pub returns-in-None : goal.returns-in-None
 returns-in-None g c = λ rest.
     let task = c.args.task.now in
     let row = c.args.row.now in
-    let p = progress_of c.args.self.now in
+    let p = progress_of_files c.args.self.now in
     let left = c.args.self.now.extraction in
     let host = g.H.Host.state c.args.host.now in
     let is_parts : c.setup.inside.with_parts ≡ task.setup.with_parts = search rules in

@@ -1,7 +1,7 @@
 use Rattle.std.proofs.Common.{◌≡◌, rules}
 use Rattle.cmd_extract.specs.Paths.{path_in}
 use Rattle.cmd_extract.specs.Progress.{written_progress, unwritten_progress}
-use Rattle.cmd_extract.specs.FilesNow.{progress_of}
+use Rattle.cmd_extract.specs.FilesNow.{progress_of_files}
 use Rattle.cmd_extract.specs.Unpacking.{after_writing, write_work}
 use Rattle.cmd_extract.proofs.Steps.{stops, further, comes_to, comes_not}
 use Rattle.cmd_extract.proofs.FileSteps.{wrote, was_written, was_not}
@@ -15,12 +15,12 @@ returns-then-make_file g c = λ rest.
     let task = c.args.task.now in
     let row = c.args.row.now in
     let file = c.args.self.now.name.items in
-    let p = progress_of c.args.self.now in
+    let p = progress_of_files c.args.self.now in
     let old = g.H.Host.state c.args.host.now in
     let now = g.H.Host.state c.make_file.new.host in
     let path_is : c.deref-3.result.now ≡ path_in task.partial file = search rules in
     comes_to c.report_written.result (write_work task row file c.args.self.now.bytes.items p rest) rest old now
-    (progress_of c.report_written.new.self) (written_progress task row file p) c.report_written.ensures
+    (progress_of_files c.report_written.new.self) (written_progress task row file p) c.report_written.ensures
     (further _ (after_writing task row file p rest c.make_file.result) _ old now now
     (wrote task row file c.args.self.now.bytes.items c.deref-3.result.now c.deref-4.result.now p rest old now c.make_file.result path_is c.deref-4.ensures.value c.make_file.ensures)
     (was_written task row file p rest now c.make_file.result c.if-make_file.true))
@@ -30,13 +30,13 @@ returns-else-make_file g c = λ rest.
     let task = c.args.task.now in
     let row = c.args.row.now in
     let file = c.args.self.now.name.items in
-    let p = progress_of c.args.self.now in
+    let p = progress_of_files c.args.self.now in
     let old = g.H.Host.state c.args.host.now in
     let now = g.H.Host.state c.make_file.new.host in
     let reason = c.reason_at-reason.result in
     let path_is : c.deref-3.result.now ≡ path_in task.partial file = search rules in
     comes_to c.report_unwritten.result (write_work task row file c.args.self.now.bytes.items p rest) rest old now
-    (progress_of c.report_unwritten.new.self) (unwritten_progress task row file reason p) c.report_unwritten.ensures
+    (progress_of_files c.report_unwritten.new.self) (unwritten_progress task row file reason p) c.report_unwritten.ensures
     (further _ (after_writing task row file p rest c.make_file.result) _ old now now
     (wrote task row file c.args.self.now.bytes.items c.deref-3.result.now c.deref-4.result.now p rest old now c.make_file.result path_is c.deref-4.ensures.value c.make_file.ensures)
     (was_not task row file p rest now c.make_file.result reason c.if-make_file.false c.reason_at-reason.ensures))

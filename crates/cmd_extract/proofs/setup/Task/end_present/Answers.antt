@@ -2,7 +2,7 @@ use Rattle.std.proofs.Common.{◌≡◌, rules, List, ℕ, Bool, cond, sym, ap, 
 use Rattle.std.specs.Prelude.{IfOk}
 use Rattle.program_batch.specs.declared.report.Verdict.{Verdict}
 use Rattle.cmd_extract.specs.Setup.{TaskView}
-use Rattle.cmd_extract.specs.Work.{Work, Done, Ends, answer_in}
+use Rattle.cmd_extract.specs.Work.{Work, Done, EndsWork, answer_in}
 use Rattle.cmd_extract.specs.Paths.{list_in}
 use Rattle.cmd_extract.specs.Unpacking.{present_answer, skipped_answer, present_work}
 use Rattle.cmd_extract.proofs.Steps.{stops, ends_after, ends_with, ends_not}
@@ -16,7 +16,7 @@ returns-then-not-setup g c =
     let buffer = c.report_present.new.buffer in
     let same : c.setup.inside.skips ≡ task.setup.skips = search rules in
     let reported_is : c.deref.result.now ≡ task.done = c.deref.ensures ∙ ap (λ (t : TaskView). t.done) c.self.view_is in
-    subst (λ (w : Work). Ends c.report_present.result buffer w host host) (not_skipped task (sym same ∙ c.if-not-setup.true))
+    subst (λ (w : Work). EndsWork c.report_present.result buffer w host host) (not_skipped task (sym same ∙ c.if-not-setup.true))
     (ends_with c.report_present.result buffer (present_answer task task.done) host
     (subst (λ (q : List ℕ). IfOk c.report_present.result (λ (v : Verdict). answer_in buffer v ≡ present_answer task q)) reported_is c.report_present.ensures))
 
@@ -33,7 +33,7 @@ returns-then-is_there g c =
     let path_is : c.deref-3.result.now ≡ list_in task.done = c.deref-3.ensures ∙ c.in_ok-list.ensures ∙ ap list_in done_is in
     ends_after c.report_skipped.result buffer (present_work task) (Done (cond c.is_there.result (skipped_answer task) (present_answer task task.done))) host host host
     (looked_into task c.deref-3.result.now host c.is_there.result (sym same ∙ c.if-not-setup.false) path_is c.is_there.ensures)
-    (subst (λ (s : Bool). Ends c.report_skipped.result buffer (Done (cond s (skipped_answer task) (present_answer task task.done))) host host) (sym c.if-is_there.true)
+    (subst (λ (s : Bool). EndsWork c.report_skipped.result buffer (Done (cond s (skipped_answer task) (present_answer task task.done))) host host) (sym c.if-is_there.true)
     (ends_with c.report_skipped.result buffer (skipped_answer task) host c.report_skipped.ensures))
 
 pub returns : goal.returns
@@ -47,6 +47,6 @@ returns g c =
     let reported_is : c.deref-else-is_there.result.now ≡ task.done = c.deref-else-is_there.ensures ∙ ap (λ (t : TaskView). t.done) c.self.view_is in
     ends_after c.report_present-else-is_there.result buffer (present_work task) (Done (cond c.is_there.result (skipped_answer task) (present_answer task task.done))) host host host
     (looked_into task c.deref-3.result.now host c.is_there.result (sym same ∙ c.if-not-setup.false) path_is c.is_there.ensures)
-    (subst (λ (s : Bool). Ends c.report_present-else-is_there.result buffer (Done (cond s (skipped_answer task) (present_answer task task.done))) host host) (sym c.if-is_there.false)
+    (subst (λ (s : Bool). EndsWork c.report_present-else-is_there.result buffer (Done (cond s (skipped_answer task) (present_answer task task.done))) host host) (sym c.if-is_there.false)
     (ends_with c.report_present-else-is_there.result buffer (present_answer task task.done) host
     (subst (λ (q : List ℕ). IfOk c.report_present-else-is_there.result (λ (v : Verdict). answer_in buffer v ≡ present_answer task q)) reported_is c.report_present-else-is_there.ensures)))

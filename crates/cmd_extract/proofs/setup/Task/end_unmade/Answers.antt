@@ -1,7 +1,7 @@
 use Rattle.std.proofs.Common.{◌≡◌, List, ℕ, ap, ◌∙◌, subst}
 use Rattle.std.specs.Prelude.{IfOk}
 use Rattle.program_batch.specs.declared.report.Verdict.{Verdict}
-use Rattle.cmd_extract.specs.Setup.{SetupView, TaskView}
+use Rattle.cmd_extract.specs.Setup.{ExtractSetupView, TaskView}
 use Rattle.cmd_extract.specs.Work.{Done, answer_in}
 use Rattle.cmd_extract.specs.Unpacking.{unmade_answer, unmade_work}
 use Rattle.cmd_extract.proofs.Steps.{ends_after, ends_with}
@@ -15,7 +15,7 @@ returns-then-is_into_there g c =
     let path = c.args.path.now in
     let reason = c.reason_at-reason.result in
     let buffer = c.report_unmade.new.buffer in
-    let into_is : c.deref.result.now ≡ task.setup.into = c.deref.ensures ∙ ap (λ (s : SetupView). s.into) c.setup.view_is ∙ ap (λ (t : TaskView). t.setup.into) c.self.view_is in
+    let into_is : c.deref.result.now ≡ task.setup.into = c.deref.ensures ∙ ap (λ (s : ExtractSetupView). s.into) c.setup.view_is ∙ ap (λ (t : TaskView). t.setup.into) c.self.view_is in
     ends_after c.report_unmade.result buffer (unmade_work task path) (Done (unmade_answer task path reason)) host host host
     (unmade_at task path c.deref.result.now host c.is_there-is_into_there.result reason into_is c.is_there-is_into_there.ensures c.reason_at-reason.ensures c.if-is_into_there.true)
     (ends_with c.report_unmade.result buffer (unmade_answer task path reason) host c.report_unmade.ensures)
@@ -27,9 +27,9 @@ returns-else-is_into_there g c =
     let path = c.args.path.now in
     let reason = c.reason_at-reason.result in
     let buffer = c.report_unmade-else-is_into_there.new.buffer in
-    let into_is : c.deref.result.now ≡ task.setup.into = c.deref.ensures ∙ ap (λ (s : SetupView). s.into) c.setup.view_is ∙ ap (λ (t : TaskView). t.setup.into) c.self.view_is in
+    let into_is : c.deref.result.now ≡ task.setup.into = c.deref.ensures ∙ ap (λ (s : ExtractSetupView). s.into) c.setup.view_is ∙ ap (λ (t : TaskView). t.setup.into) c.self.view_is in
     let same_into : c.deref-else-is_into_there.result.now ≡ task.setup.into =
-    c.deref-else-is_into_there.ensures ∙ ap (λ (s : SetupView). s.into) c.setup.view_is ∙ ap (λ (t : TaskView). t.setup.into) c.self.view_is in
+    c.deref-else-is_into_there.ensures ∙ ap (λ (s : ExtractSetupView). s.into) c.setup.view_is ∙ ap (λ (t : TaskView). t.setup.into) c.self.view_is in
     ends_after c.report_unmade-else-is_into_there.result buffer (unmade_work task path) (Done (unmade_answer task task.setup.into reason)) host host host
     (unmade_below task path c.deref.result.now host c.is_there-is_into_there.result reason into_is c.is_there-is_into_there.ensures c.reason_at-reason.ensures c.if-is_into_there.false)
     (ends_with c.report_unmade-else-is_into_there.result buffer (unmade_answer task task.setup.into reason) host

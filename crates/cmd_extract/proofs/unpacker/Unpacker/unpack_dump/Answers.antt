@@ -2,7 +2,7 @@ use Rattle.std.proofs.Common.{◌≡◌, ℕ, List, ◌++◌, ap, ◌∙◌, sub
 use Rattle.host_names.specs.ImagePlace.{folders_of, finished_name, unfinished_name}
 use Rattle.cmd_extract.specs.declared.unpacker.Unpacker.{Unpacker}
 use Rattle.cmd_extract.specs.Paths.{path_inside, place_below, done_path, partial_path}
-use Rattle.cmd_extract.specs.Work.{Work, Ends}
+use Rattle.cmd_extract.specs.Work.{Work, EndsWork}
 use Rattle.cmd_extract.proofs.FolderSteps.{texts}
 use Rattle.cmd_extract.proofs.GivenFiles.{task_made}
 use Rattle.cmd_extract.proofs.Steps.{stops, ends_not}
@@ -36,7 +36,7 @@ returns-clause-done g c =
     c.in_ok-partial.ensures ∙ ap (λ (i : List ℕ). place_below (path_inside i) folders ++ unfinished_name last) partial_into
     ∙ ap (λ (fs : List (List ℕ)). place_below (path_inside setup.into) fs ++ unfinished_name last) c.in_ok-place.ensures.folders
     ∙ ap (λ (l : List ℕ). place_below (path_inside setup.into) (folders_of name) ++ unfinished_name l) c.in_ok-place.ensures.last in
-    subst (λ (w : Work). Ends c.unpack.result c.unpack.new.buffer w (g.H.Host.state c.args.host.now) (g.H.Host.state c.unpack.new.host))
+    subst (λ (w : Work). EndsWork c.unpack.result c.unpack.new.buffer w (g.H.Host.state c.args.host.now) (g.H.Host.state c.unpack.new.host))
     (task_made setup _ name c.args.self.now.dump c.in_ok-all.all (string_bytes c.in_ok-done.done) (string_bytes c.in_ok-partial.partial) (texts c.as_slice.result.now) (ap (λ (u : Unpacker). u.setup) c.self.view_is)
     (c.in_ok-all.ensures ∙ ap (λ (u : Unpacker). u.dump) c.self.view_is) is_done
     is_partial (ap texts c.as_slice.ensures.value ∙ c.in_ok-place.ensures.folders)) c.unpack.ensures

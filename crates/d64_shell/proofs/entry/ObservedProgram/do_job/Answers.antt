@@ -3,7 +3,7 @@ use Rattle.std.proofs.Common.{◌≡◌, ℕ, List, Option, inr, map, option_cop
 use Rattle.script_text.specs.Input.{reading_of}
 use Rattle.std.proofs.lemmas.Result.{IfOk-weaker}
 use Rattle.cmd_check.specs.Check.{check_printing, check_rule, heading_of as check_heading}
-use Rattle.cmd_files.specs.Files.{files_printing, files_rule, heading_of as files_heading}
+use Rattle.cmd_files.specs.Files.{files_printing, files_rule, file_heading_of as files_heading}
 use Rattle.cmd_files.specs.Extracts.{extract_heading}
 use Rattle.cmd_map.specs.Pictures.{map_printing, map_rule}
 use Rattle.cmd_catalogue.specs.Catalogue.{catalogue_printing, catalogue_rule, catalogue_heading}
@@ -14,7 +14,7 @@ use Rattle.script_run.specs.Transcript.{RunOptions}
 use Rattle.script_run.specs.declared.run_options.Refusals.{Refusals}
 use Rattle.cmd_shell.specs.Beginnings.{beginning_of, home_of, refusals_of, source_of}
 use Rattle.d64_shell.specs.Jobs.{form_of, setup_of, work_of}
-use Rattle.program_surveys.specs.SurveyFiles.{Named, files_in, files_of}
+use Rattle.program_surveys.specs.SurveyFiles.{Named, files_in, survey_files_of}
 use Rattle.program_console.specs.Outside.{account_at, outside_at, outside_of}
 use Rattle.d64_shell.proofs.JobEnds.{extraction_ended, extraction_is_quiet, report_is_quiet, reports_after, script_ended, survey_ended}
 use Rattle.cmd_shell.proofs.ShellRuns.{due_reported, stopped_reported}
@@ -54,7 +54,7 @@ returns-in-Shell-clause-ended g c =
 
 pub returns-in-Check-clause-ended : goal.returns-in-Check-clause-ended
 returns-in-Check-clause-ended g c =
-    survey_ended c.args.job (check_rule c.in-Check.format c.in-Check.digest) (check_heading c.in-Check.format c.in-Check.digest) (files_of c.in-Check.names) (files_in c.new.result.names)
+    survey_ended c.args.job (check_rule c.in-Check.format c.in-Check.digest) (check_heading c.in-Check.format c.in-Check.digest) (survey_files_of c.in-Check.names) (files_in c.new.result.names)
     _ _ c.run-in-Check.result
     (ap work_of c.in-Check.is) (search rules)
     (c.run-in-Check.ensures.ended (check_rule c.in-Check.format c.in-Check.digest) (check_heading c.in-Check.format c.in-Check.digest)
@@ -67,7 +67,7 @@ returns-in-Check-clause-silent g c = λ passes is. c.run-in-Check.ensures.silent
 
 pub returns-in-Files-clause-ended : goal.returns-in-Files-clause-ended
 returns-in-Files-clause-ended g c =
-    survey_ended c.args.job (files_rule (form_of c.in-Files.format c.in-Files.leftovers)) (files_heading (form_of c.in-Files.format c.in-Files.leftovers)) (files_of c.in-Files.names) (files_in c.new-in-Files.result.names)
+    survey_ended c.args.job (files_rule (form_of c.in-Files.format c.in-Files.leftovers)) (files_heading (form_of c.in-Files.format c.in-Files.leftovers)) (survey_files_of c.in-Files.names) (files_in c.new-in-Files.result.names)
     _ _ c.run-in-Files.result
     (ap work_of c.in-Files.is) (search rules)
     (c.run-in-Files.ensures.ended (files_rule (form_of c.in-Files.format c.in-Files.leftovers)) (files_heading (form_of c.in-Files.format c.in-Files.leftovers)) (search rules))
@@ -87,7 +87,7 @@ returns-in-Map-clause-silent g c = λ passes is. c.run-in-Map.ensures.silent (re
 
 pub returns-in-Catalogue-clause-ended : goal.returns-in-Catalogue-clause-ended
 returns-in-Catalogue-clause-ended g c =
-    survey_ended c.args.job (catalogue_rule c.in-Catalogue.page) (catalogue_heading c.in-Catalogue.page) (files_of c.in-Catalogue.names) (files_in c.new-in-Catalogue.result.names)
+    survey_ended c.args.job (catalogue_rule c.in-Catalogue.page) (catalogue_heading c.in-Catalogue.page) (survey_files_of c.in-Catalogue.names) (files_in c.new-in-Catalogue.result.names)
     _ _ c.run-in-Catalogue.result
     (ap work_of c.in-Catalogue.is) (search rules)
     (c.run-in-Catalogue.ensures.ended (catalogue_rule c.in-Catalogue.page) (catalogue_heading c.in-Catalogue.page)
@@ -99,12 +99,12 @@ returns-in-Catalogue-clause-silent g c = λ passes is. c.run-in-Catalogue.ensure
 
 pub returns-in-Extract-clause-ended : goal.returns-in-Extract-clause-ended
 returns-in-Extract-clause-ended g c =
-    extraction_ended c.args.job (setup_of c.in-Extract.extraction (form_of c.in-Extract.format c.in-Extract.leftovers)) (extract_heading (form_of c.in-Extract.format c.in-Extract.leftovers)) (files_of c.in-Extract.names) (files_in c.new-in-Extract.result.names)
+    extraction_ended c.args.job (setup_of c.in-Extract.extraction (form_of c.in-Extract.format c.in-Extract.leftovers)) (extract_heading (form_of c.in-Extract.format c.in-Extract.leftovers)) (survey_files_of c.in-Extract.names) (files_in c.new-in-Extract.result.names)
     _ _ c.run-in-Extract.result
     (ap work_of c.in-Extract.is) (search rules)
     (c.run-in-Extract.ensures.ended (setup_of c.in-Extract.extraction (form_of c.in-Extract.format c.in-Extract.leftovers)) (extract_heading (form_of c.in-Extract.format c.in-Extract.leftovers)) (search rules))
 
 pub returns-in-Extract-clause-silent : goal.returns-in-Extract-clause-silent
 returns-in-Extract-clause-silent g c = λ passes is.
-    c.run-in-Extract.ensures.silent (extraction_is_quiet c.args.job (setup_of c.in-Extract.extraction (form_of c.in-Extract.format c.in-Extract.leftovers)) (extract_heading (form_of c.in-Extract.format c.in-Extract.leftovers)) (files_of c.in-Extract.names) c.new-task.result
+    c.run-in-Extract.ensures.silent (extraction_is_quiet c.args.job (setup_of c.in-Extract.extraction (form_of c.in-Extract.format c.in-Extract.leftovers)) (extract_heading (form_of c.in-Extract.format c.in-Extract.leftovers)) (survey_files_of c.in-Extract.names) c.new-task.result
     (ap work_of c.in-Extract.is) (search rules) passes) is

@@ -1,7 +1,7 @@
 use Rattle.std.proofs.Common.{ℕ, ◌+◌, ◌≤◌, List, ◌∷◌, [], take, subst, arith}
 use Rattle.std.proofs.lemmas.List.{take_all}
 use Rattle.d64_survey.specs.Owners.{owned_as}
-use Rattle.d64_survey.specs.OwnerTables.{owner_kept, row_of, Adds}
+use Rattle.d64_survey.specs.OwnerTables.{owner_kept, owner_row_of, Adds}
 use Rattle.d64_survey.specs.declared.owner.Owner.{Owner}
 use Rattle.d64_survey.proofs.OwnerLists.{then_added}
 use Rattle.d64_survey.proofs.OwnerRows.{owned_more}
@@ -18,7 +18,7 @@ loop-block-preserved c =
       few = λ (b : ℕ).
           let before = c.loop-block.invariant.few b in
           let more = c.claim.ensures.few b in
-          let goes : (row_of c.claim.new.self b).count ≤ (row_of c.args.self.now b).count + (k + 1) = omega arith in goes;
+          let goes : (owner_row_of c.claim.new.self b).count ≤ (owner_row_of c.args.self.now b).count + (k + 1) = omega arith in goes;
     }
 
 pub returns-clause-told : goal.returns-clause-told

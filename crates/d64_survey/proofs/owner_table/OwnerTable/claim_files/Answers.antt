@@ -6,7 +6,7 @@ use Rattle.d64_image.specs.declared.block.TheConstants.{BLOCKS}
 use Rattle.d64_files.specs.Slot.{EntryView}
 use Rattle.d64_files.proofs.Owners.{owned_more}
 use Rattle.d64_survey.specs.Owners.{slot_owners}
-use Rattle.d64_survey.specs.OwnerTables.{row_of, Adds}
+use Rattle.d64_survey.specs.OwnerTables.{owner_row_of, Adds}
 use Rattle.d64_survey.specs.declared.owner.Owner.{Owner}
 use Rattle.d64_survey.proofs.OwnerLists.{then_added}
 use Rattle.d64_survey.proofs.owner_table.OwnerTable.claim_files.Goals as goal
@@ -27,7 +27,7 @@ loop-entry-preserved c =
       few = λ (b : ℕ).
           let before = invariant.few b in
           let more = c.claim_file.ensures.few b in
-          let goes : (row_of c.claim_file.new.self b).count ≤ (row_of c.args.self.now b).count + 1536 * length (done ++ entry ∷ []) = omega arith in goes;
+          let goes : (owner_row_of c.claim_file.new.self b).count ≤ (owner_row_of c.args.self.now b).count + 1536 * length (done ++ entry ∷ []) = omega arith in goes;
       numbers = All-tail (λ (entry : EntryView). entry.slot < 8 * BLOCKS) entry c.next.new.self (subst (All (λ (entry : EntryView). entry.slot < 8 * BLOCKS)) c.in-Some.ensures.steps invariant.numbers);
     }
 

@@ -2,7 +2,7 @@ use Rattle.std.proofs.Common.{◌≡◌, ◌++◌, List, ℕ, ap, ◌∙◌, sub
 use Rattle.std.specs.Result.{OnOk}
 use Rattle.std.proofs.lemmas.Result.{IfErr-weaker}
 use Rattle.d64_undo.specs.Resuming.{given_bytes, Fails}
-use Rattle.d64_undo.specs.ResumeFault.{parts_at, told_by, first_fault}
+use Rattle.d64_undo.specs.ResumeFault.{parts_at, reported_by, first_resume_fault}
 use Rattle.d64_undo.proofs.Given.{given_more}
 use Rattle.d64_undo.proofs.Resumed.{session_fails}
 use Rattle.d64_undo.proofs.resuming.Resuming.push.Goals as goal
@@ -19,7 +19,7 @@ pub returns-clause-refused : goal.returns-clause-refused
 returns-clause-refused c =
     IfErr-weaker c.read_on.result
     (λ fault. (more : List ℕ) → Fails fault (parts_at (given_bytes c.self.inside.parts c.extend_from_slice.new.self.items ++ more)))
-    (λ fault. (more : List ℕ) → told_by fault (first_fault (c.args.self.now ++ c.args.piece.now ++ more)) ≡ first_fault (c.args.self.now ++ c.args.piece.now ++ more))
+    (λ fault. (more : List ℕ) → reported_by fault (first_resume_fault (c.args.self.now ++ c.args.piece.now ++ more)) ≡ first_resume_fault (c.args.self.now ++ c.args.piece.now ++ more))
     (λ fault fails more. session_fails fault (c.args.self.now ++ c.args.piece.now ++ more)
     (subst (λ (bytes : List ℕ). Fails fault (parts_at (bytes ++ more))) (joined c) (fails more)))
     c.read_on.ensures.refused

@@ -3,7 +3,7 @@ use Rattle.std.proofs.lemmas.List.{get_or-take, length-append}
 use Rattle.host_names.specs.declared.taken_names.Taken.{Taken}
 use Rattle.host_names.specs.HostName.{is_same_name, numbered_name, tail}
 use Rattle.host_names.specs.TakenNames.{first_free}
-use Rattle.host_names.specs.Records.{names_of, AreTried, AreRecords}
+use Rattle.host_names.specs.Records.{names_of, AreTried, AreNameRecords}
 use Rattle.host_names.proofs.NextNames.{tail_at, next_is, end_fits, end_at}
 use Rattle.host_names.proofs.Records.{BeginsAt, begins_at, length-names, tried_all}
 use Rattle.host_names.proofs.Search.{first_free_within}
@@ -16,7 +16,7 @@ begins c =
     let whole = c.push_tail.new.name.items in
     let back = tail c.args.ending c.args.is_part in
     let name_is = c.deref.ensures.value in
-    let all : AreRecords records = subst (λ (r : List Taken). AreRecords r) (sym c.as_slice-names.ensures.value) c.self.invariant in
+    let all : AreNameRecords records = subst (λ (r : List Taken). AreNameRecords r) (sym c.as_slice-names.ensures.value) c.self.invariant in
     let ends : drop c.len-stem_len.result whole ≡ back =
     tail_at c.put_stem.new.name.items back whole c.len-stem_len.result (omega arith) c.in_ok-push_tail.ensures in
     let fits : c.len-stem_len.result ≤ length whole =
@@ -73,7 +73,7 @@ pass-requires-clause-tried c = λ d.
     let place = c.in-Some.place in
     let back = tail c.args.ending c.args.is_part in
     let front = take c.len-stem_len.result whole in
-    let all : AreRecords records = subst (λ (r : List Taken). AreRecords r) (sym c.as_slice-names.ensures.value) c.self.invariant in
+    let all : AreNameRecords records = subst (λ (r : List Taken). AreNameRecords r) (sym c.as_slice-names.ensures.value) c.self.invariant in
     let ends : drop c.len-stem_len.result whole ≡ back = tail_at c.put_stem.new.name.items back whole c.len-stem_len.result (omega arith) c.in_ok-push_tail.ensures in
     let fits : c.len-stem_len.result ≤ length whole = omega (arith, ap length c.in_ok-push_tail.ensures, length-append c.put_stem.new.name.items back) in
     let same : is_same_name (get_or records place d).name.items whole ≡ true =
