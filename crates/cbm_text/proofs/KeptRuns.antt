@@ -6,7 +6,8 @@ use Rattle.std.proofs.lemmas.List.Sums.{sum_by-append}
 use Rattle.std.proofs.lemmas.Bool.{eqb-true, eqb-false}
 use Rattle.cbm_text.specs.declared.mode.Mode.{Mode}
 use Rattle.cbm_text.specs.declared.mode.Mode.TheVariants.{Free, Quoted, Remark, Data, QuotedData}
-use Rattle.cbm_text.specs.Kept.{quote, colon, Opener, QuoteMark, RemWord, DataWord, opener_byte, quotes_in, ends, HasNoEnd, IsKept}
+use Rattle.cbm_text.specs.Kept.{colon, Opener, QuoteMark, RemWord, DataWord, opener_byte, quotes_in, ends, HasNoEnd, IsKept}
+use Rattle.script_text.specs.Words.{quote}
 use Rattle.cbm_text.specs.Modes.{next_mode, CrunchedFrom, first_code, text_of_code, expanded_from}
 use Rattle.cbm_text.proofs.CodesSoFar.{kept_code}
 

@@ -9,7 +9,8 @@ use Rattle.std.proofs.lemmas.Slice.Eq.{starts_is}
 use Rattle.cbm_text.specs.declared.mode.Mode.{Mode}
 use Rattle.cbm_text.specs.declared.mode.Mode.TheVariants.{Free, Quoted, Remark, Data}
 use Rattle.cbm_text.specs.Keywords.{keywords, keyword, token_from}
-use Rattle.cbm_text.specs.Kept.{quote, rem_token, data_token, Opener, QuoteMark, RemWord, DataWord, opening, opener_byte, IsKept}
+use Rattle.cbm_text.specs.Kept.{rem_token, data_token, Opener, QuoteMark, RemWord, DataWord, opening, opener_byte, IsKept}
+use Rattle.script_text.specs.Words.{quote}
 use Rattle.cbm_text.specs.Pieces.{LinePiece, Kept, Token, Question, Single, print_token, written_piece, crunched_piece, ArePieces}
 use Rattle.cbm_text.specs.Crunching.{question, pi, HasNoOpener, TextBegins, AreTextPieces, Crunched}
 use Rattle.cbm_text.specs.Listing.{IsNoOpener, CodesBegin, AreCodePieces, Listed}

@@ -18,7 +18,8 @@ use Rattle.petscii.proofs.Readings.{spelling_read}
 use Rattle.script_text.specs.RawLines.{lines_of, is_ended, before_end, text_of, is_skipped}
 use Rattle.script_text.proofs.LineCuts.{lines_of-end, lines_of-inside}
 use Rattle.cbm_text.specs.Listing.{line_text}
-use Rattle.cbm_text.specs.TextLine.{space, is_no_space, is_no_digit, unspaced_line, number_digits, line_number, without_space, rest_of}
+use Rattle.cbm_text.specs.TextLine.{is_no_space, is_no_digit, unspaced_line, number_digits, line_number, without_space, rest_of}
+use Rattle.script_text.specs.Words.{space}
 use Rattle.cbm_text.proofs.TextLines.{digits_model}
 
 -- ---- bytes that end no line

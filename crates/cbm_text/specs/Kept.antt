@@ -1,10 +1,7 @@
 -- What a line keeps unchanged, in a text and in a program alike.
 use Rattle.std.specs.Prelude.{◌≡◌, ℕ, ◌%◌, ◌<◌, ◌&&◌, ◌⊎◌, Bool, true, false, List, [], ◌∷◌, ◌++◌, length, take, slice_index, ◌==◌, codes}
 use Rattle.std.specs.List.{count_by}
-
--- `"`
-abbrev pub quote : ℕ
-quote = 34
+use Rattle.script_text.specs.Words.{quote}
 
 -- `:`
 abbrev pub colon : ℕ

@@ -7,7 +7,8 @@ use Rattle.std.specs.List.{flat_map, list_all}
 use Rattle.cbm_text.specs.declared.mode.Mode.{Mode}
 use Rattle.cbm_text.specs.declared.mode.Mode.TheVariants.{Free, Quoted, Remark, Data, QuotedData}
 use Rattle.cbm_text.specs.Keywords.{keywords, keyword, token_from}
-use Rattle.cbm_text.specs.Kept.{quote, colon, data_token, rem_token}
+use Rattle.cbm_text.specs.Kept.{colon, data_token, rem_token}
+use Rattle.script_text.specs.Words.{quote}
 use Rattle.cbm_text.specs.Pieces.{print_token}
 use Rattle.cbm_text.specs.Crunching.{question, pi, Crunched}
 use Rattle.cbm_text.specs.Listing.{line_text}

@@ -3,10 +3,7 @@ use Rattle.std.specs.Prelude.{ℕ, ◌^◌, Bool, not, nat_lt, Option, Some, Non
 use Rattle.std.specs.List.{before_first, position_or_len}
 use Rattle.std.specs.Char.{is_ascii_digit}
 use Rattle.std.specs.Str.Parse.{digits_value}
-
--- ` `
-abbrev pub space : ℕ
-space = 32
+use Rattle.script_text.specs.Words.{space}
 
 -- the bytes that are no spaces, and those that are no digits
 abbrev pub is_no_space : ℕ → Bool
