@@ -5,7 +5,7 @@ use Rattle.program_batch.specs.declared.reason.Reason.{Reason}
 use Rattle.std.specs.Prelude.{is_some, OnOk}
 use Rattle.std.specs.Str.{is_utf8}
 use Rattle.host_storage.specs.Files.{HostState}
-use Rattle.d64_leftovers.specs.declared.row.Row.{Row}
+use Rattle.d64_leftovers.specs.declared.row.ListedRow.{ListedRow}
 use Rattle.cmd_extract_contents.specs.Portions.{Portion}
 use Rattle.cmd_extract_contents.specs.RowPortions.{row_portion}
 use Rattle.cmd_extract_contents.specs.Limits.{left_after, portion_within}
@@ -47,7 +47,7 @@ closed_within task p printed over is_printed is_over is_false =
     (sym (append-nil p.complaint) ∙ sym (ap (λ (t : Bool). p.complaint ++ cond t [] (too_much_line task.name)) (not_over (is_some p.left) over is_over is_false)))
 
 -- a file was written, or wasn't
-pub wrote : (task : TaskView) (row : Row) (file bytes path given : List ℕ) (p : Progress) (rest : Progress → Work) (old now : HostState) (said : Bool)
+pub wrote : (task : TaskView) (row : ListedRow) (file bytes path given : List ℕ) (p : Progress) (rest : Progress → Work) (old now : HostState) (said : Bool)
     → path ≡ path_in task.partial file → given ≡ bytes → SaysFile (is_utf8 path) path given old said now
     → LeadsTo (write_work task row file bytes p rest) old (after_writing task row file p rest said) now
 wrote task row file bytes path given p rest old now said path_is given_is says =
@@ -55,19 +55,19 @@ wrote task row file bytes path given p rest old now said path_is given_is says =
     (subst (λ (b : List ℕ). SaysFile (is_utf8 (path_in task.partial file)) (path_in task.partial file) b old said now) given_is
     (subst (λ (q : List ℕ). SaysFile (is_utf8 q) q given old said now) path_is says))
 
-pub was_written : (task : TaskView) (row : Row) (file : List ℕ) (p : Progress) (rest : Progress → Work) (host : HostState) (said : Bool) → said ≡ true
+pub was_written : (task : TaskView) (row : ListedRow) (file : List ℕ) (p : Progress) (rest : Progress → Work) (host : HostState) (said : Bool) → said ≡ true
     → LeadsTo (after_writing task row file p rest said) host (rest (written_progress task row file p)) host
 was_written task row file p rest host said is =
     subst (λ (s : Bool). LeadsTo (after_writing task row file p rest s) host (rest (written_progress task row file p)) host) (sym is) (nothing_yet (rest (written_progress task row file p)) host)
 
-pub was_not : (task : TaskView) (row : Row) (file : List ℕ) (p : Progress) (rest : Progress → Work) (host : HostState) (said : Bool) (reason : Option Reason) → said ≡ false → IsWriteReason host.files reason
+pub was_not : (task : TaskView) (row : ListedRow) (file : List ℕ) (p : Progress) (rest : Progress → Work) (host : HostState) (said : Bool) (reason : Option Reason) → said ≡ false → IsWriteReason host.files reason
     → LeadsTo (after_writing task row file p rest said) host (rest (unwritten_progress task row file reason p)) host
 was_not task row file p rest host said reason is says =
     subst (λ (s : Bool). LeadsTo (after_writing task row file p rest s) host (rest (unwritten_progress task row file reason p)) host) (sym is)
     (explained (λ (r : Option Reason). rest (unwritten_progress task row file r p)) host reason says)
 
 -- no file was written, and its line was added
-pub reported_none : {A E : Type 0} (result : Result A E) (task : TaskView) (row : Row) (p : Progress) (left : Option ℕ) (printed lines complaint : List ℕ) (list : ListState) (failed : Bool)
+pub reported_none : {A E : Type 0} (result : Result A E) (task : TaskView) (row : ListedRow) (p : Progress) (left : Option ℕ) (printed lines complaint : List ℕ) (list : ListState) (failed : Bool)
     → left ≡ left_after p.left (portion_of task row) → OnOk result (printed ≡ p.printed ++ printed_file task.setup.form task.name task.dump.image row None)
     → OnOk result (lines ≡ p.lines ++ printed_file (as_json task.setup.form) task.name task.dump.image row None) → complaint ≡ p.complaint → list ≡ p.list → failed ≡ p.has_failed
     → OnOk result (◌≡◌ {A = Progress} (record { left = left; taken = p.taken; printed = printed; lines = lines; list = list; complaint = complaint; has_failed = failed }) (reported_progress task row None (spent_progress task row p)))
@@ -77,12 +77,12 @@ reported_none (Ok done) task row p left printed lines complaint list failed l pr
 reported_none (Err fault) task row p left printed lines complaint list failed l pr li co st fa = tt
 
 -- if this is found of the file, what there is to write is what is written
-pub file_none : (task : TaskView) (row : Row) (p : Progress) (portion : Option Portion) (rest : Progress → Work) → None ≡ portion
+pub file_none : (task : TaskView) (row : ListedRow) (p : Progress) (portion : Option Portion) (rest : Progress → Work) → None ≡ portion
     → rest (reported_progress task row None p) ≡ file_work task row p portion rest
 unfolding file_work
 file_none task row p portion rest is = ap (λ (q : Option Portion). file_work task row p q rest) is
 
-pub file_some : (task : TaskView) (row : Row) (p q : Progress) (bytes file : List ℕ) (extent : Extent) (portion : Option Portion) (rest : Progress → Work)
+pub file_some : (task : TaskView) (row : ListedRow) (p q : Progress) (bytes file : List ℕ) (extent : Extent) (portion : Option Portion) (rest : Progress → Work)
     → Some (record { bytes = bytes; extent = extent }) ≡ portion → file ≡ row_name p.taken row extent → q ≡ named_progress file p
     → write_work task row file bytes q rest ≡ file_work task row p portion rest
 unfolding file_work
@@ -92,16 +92,16 @@ file_some task row p q bytes file extent portion rest is file_is q_is =
     ∙ ap (λ (o : Option Portion). file_work task row p o rest) is
 
 -- what there is to write of the file of a row, by the code's condition
-pub portion_same : (task : TaskView) (row : Row) (with_parts : Bool) (image : List (List ℕ)) → with_parts ≡ task.setup.with_parts → image ≡ task.dump.image
+pub portion_same : (task : TaskView) (row : ListedRow) (with_parts : Bool) (image : List (List ℕ)) → with_parts ≡ task.setup.with_parts → image ≡ task.dump.image
     → row_portion with_parts image row ≡ portion_of task row
 portion_same task row with_parts image is_parts is_image =
     ap (λ (w : Bool). row_portion w image row) is_parts ∙ ap (λ (i : List (List ℕ)). row_portion task.setup.with_parts i row) is_image
 
 -- one more file
-pub next_file : (task : TaskView) (row : Row) (later all : List Row) (p : Progress) → all ≡ row ∷ later
+pub next_file : (task : TaskView) (row : ListedRow) (later all : List ListedRow) (p : Progress) → all ≡ row ∷ later
     → file_work task row (spent_progress task row p) (portion_within p.left (portion_of task row)) (λ (q : Progress). wait_work task q (files_work task later)) ≡ files_work task all p
 unfolding files_work
-next_file task row later all p is = sym (ap (λ (rs : List Row). files_work task rs p) is)
+next_file task row later all p is = sym (ap (λ (rs : List ListedRow). files_work task rs p) is)
 
 -- the list of the files has come
 pub listed_after : (task : TaskView) (p q : Progress) (host : HostState) → q ≡ closed_progress task p → LeadsTo (files_work task [] p) host (list_work task q) host

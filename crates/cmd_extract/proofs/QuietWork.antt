@@ -5,7 +5,7 @@ use Rattle.std.specs.Str.{is_utf8}
 use Rattle.host_storage.specs.Files.{HostState}
 use Rattle.d64_survey.specs.Dump.{DumpView}
 use Rattle.d64_leftovers.specs.Rows.{wanted_rows}
-use Rattle.d64_leftovers.specs.declared.row.Row.{Row}
+use Rattle.d64_leftovers.specs.declared.row.ListedRow.{ListedRow}
 use Rattle.cmd_extract_contents.specs.Portions.{Portion}
 use Rattle.cmd_extract_contents.specs.Limits.{portion_within}
 use Rattle.d64_g64.specs.DumpOf.{dump_of}
@@ -104,11 +104,11 @@ listed_quiet task p quiet =
     (λ reason. named_quiet task (unput_progress task reason p) (λ unfailed. absurd (let e : true ≡ false = unfailed in cc))) (named_quiet task (dropped_progress p) quiet)
 
 -- one more file
-reported_quiet : (task : TaskView) (row : Row) (path : Option (List ℕ)) (p : Progress) → IsQuietSoFar p → IsQuietSoFar (reported_progress task row path p)
+reported_quiet : (task : TaskView) (row : ListedRow) (path : Option (List ℕ)) (p : Progress) → IsQuietSoFar p → IsQuietSoFar (reported_progress task row path p)
 unfolding reported_progress
 reported_quiet task row path p quiet = quiet
 
-file_quiet : (task : TaskView) (row : Row) (p : Progress) (portion : Option Portion) (rest : Progress → Work) → IsQuietSoFar p → ((q : Progress) → IsQuietSoFar q → IsQuietWork (rest q))
+file_quiet : (task : TaskView) (row : ListedRow) (p : Progress) (portion : Option Portion) (rest : Progress → Work) → IsQuietSoFar p → ((q : Progress) → IsQuietSoFar q → IsQuietWork (rest q))
     → IsQuietWork (file_work task row p portion rest)
 unfolding file_work IsQuietWork
 file_quiet task row p None rest quiet later = later (reported_progress task row None p) (reported_quiet task row None p quiet)
@@ -125,7 +125,7 @@ file_quiet task row p (Some portion) rest quiet later = by_writing
     by_writing false = λ reason. later (unwritten_progress task row file reason named)
         (reported_quiet task row None (failed_at (path_in task.partial file) reason named) (λ unfailed. absurd (let e : true ≡ false = unfailed in cc)))
 
-files_quiet : (task : TaskView) (rows : List Row) (p : Progress) → IsQuietSoFar p → IsQuietWork (files_work task rows p)
+files_quiet : (task : TaskView) (rows : List ListedRow) (p : Progress) → IsQuietSoFar p → IsQuietWork (files_work task rows p)
 unfolding files_work
 files_quiet task [] p quiet = listed_quiet task (closed_progress task p) (closed_quiet task p quiet)
 files_quiet task (row ∷ wanted_rows) p quiet =

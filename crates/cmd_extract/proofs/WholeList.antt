@@ -7,8 +7,8 @@ use Rattle.std.proofs.lemmas.Slice.Eq.{bytes_eq-Decides}
 use Rattle.petscii.specs.Spelling.{spelling}
 use Rattle.d64_files.specs.Name.{name_in}
 use Rattle.d64_leftovers.specs.Rows.{wanted_rows}
-use Rattle.d64_leftovers.specs.declared.row.Row.{Row}
-use Rattle.d64_leftovers.specs.declared.row.Row.TheVariants.{File, Deleted, Orphan}
+use Rattle.d64_leftovers.specs.declared.row.ListedRow.{ListedRow}
+use Rattle.d64_leftovers.specs.declared.row.ListedRow.TheVariants.{File, Deleted, Orphan}
 use Rattle.cmd_extract_contents.specs.Portions.{Portion}
 use Rattle.cmd_extract_contents.specs.Limits.{portion_within}
 use Rattle.cmd_extract_contents.specs.declared.extent.Extent.{Extent}
@@ -51,7 +51,7 @@ other_named task taken text ending in_part =
     not_the_list ends.0 ending in_part
     (sym ends.1 ∙ sym (append_cancel_left (with_slash task.partial) (codes "files.jsonl") name ((bytes_eq-Decides (list_path task) (path_in task.partial name)).0 same))))
 
-other_path : (task : TaskView) (taken : List (List ℕ)) (row : Row) (extent : Extent) → bytes_eq (list_path task) (path_in task.partial (row_name taken row extent)) ≡ false
+other_path : (task : TaskView) (taken : List (List ℕ)) (row : ListedRow) (extent : Extent) → bytes_eq (list_path task) (path_in task.partial (row_name taken row extent)) ≡ false
 unfolding host_name_of_row row_name
 other_path task taken (File row) extent = other_named task taken (spelling (name_in row.field)) (ending_by row.kind) (is_part extent)
 other_path task taken (Deleted row) extent = other_named task taken (spelling (name_in row.field)) endings.Deleted (is_part extent)
@@ -78,10 +78,10 @@ put_into task Begun p rest tried = ap (λ (t : Bool). cond t p.lines [] ++ into_
 put_into task GivenUp p rest tried = absurd tried
 
 -- what the files of rows put into it
-abbrev HasLines : TaskView → List Row → Progress → Type 0
+abbrev HasLines : TaskView → List ListedRow → Progress → Type 0
 HasLines task later p = into_list task (files_work task later p) ≡ p.lines ++ lines_of_rows task later p.left p.taken
 
-wait_into : (task : TaskView) (later : List Row) (p : Progress) → IsTried p.list → ((q : Progress) → IsTried q.list → HasLines task later q)
+wait_into : (task : TaskView) (later : List ListedRow) (p : Progress) → IsTried p.list → ((q : Progress) → IsTried q.list → HasLines task later q)
     → into_list task (wait_work task p (files_work task later)) ≡ p.lines ++ lines_of_rows task later p.left p.taken
 unfolding wait_work
 wait_into task later p tried rest = by_length (nat_lt waiting_limit (length p.lines))
@@ -90,7 +90,7 @@ wait_into task later p tried rest = by_length (nat_lt waiting_limit (length p.li
     by_length true = put_into task p.list p (files_work task later) tried ∙ ap (λ (e : List ℕ). p.lines ++ e) (rest (put_progress p) tt)
     by_length false = rest p tried
 
-file_into : (task : TaskView) (row : Row) (later : List Row) (p : Progress) (portion : Option Portion) → IsTried p.list → ((q : Progress) → IsTried q.list → HasLines task later q)
+file_into : (task : TaskView) (row : ListedRow) (later : List ListedRow) (p : Progress) (portion : Option Portion) → IsTried p.list → ((q : Progress) → IsTried q.list → HasLines task later q)
     → into_list task (file_work task row p portion (λ (q : Progress). wait_work task q (files_work task later)))
     ≡ p.lines ++ (printed_file (as_json task.setup.form) task.name task.dump.image row (path_of task row p.taken portion) ++ lines_of_rows task later p.left (taken_after row p.taken portion))
 unfolding file_work reported_progress all_into
@@ -104,7 +104,7 @@ file_into task row later p (Some portion) tried rest =
     ∙ wait_into task later q tried rest
     ∙ append_assoc p.lines (printed_file (as_json task.setup.form) task.name task.dump.image row (Some (path_in task.done file))) (lines_of_rows task later p.left (p.taken ++ file ∷ []))
 
-files_into : (task : TaskView) (later : List Row) (p : Progress) → IsTried p.list → HasLines task later p
+files_into : (task : TaskView) (later : List ListedRow) (p : Progress) → IsTried p.list → HasLines task later p
 unfolding files_work lines_of_rows closed_progress
 files_into task [] p tried =
     put_into task p.list (closed_progress task p) (name_work task) tried ∙ ap (λ (e : List ℕ). p.lines ++ e) (naming_none task (put_progress (closed_progress task p)))

@@ -1,6 +1,6 @@
 -- The list of an image's files, if every call is accepted.
 use Rattle.std.specs.Prelude.{ℕ, bytes_eq, if◌then◌else◌, List, [], ◌∷◌, ◌++◌, Option, Some, None, true}
-use Rattle.d64_leftovers.specs.declared.row.Row.{Row}
+use Rattle.d64_leftovers.specs.declared.row.ListedRow.{ListedRow}
 use Rattle.cmd_extract_contents.specs.Portions.{Portion}
 use Rattle.cmd_extract_contents.specs.Limits.{left_after, portion_within}
 use Rattle.cmd_files.specs.Extracts.{as_json, printed_file}
@@ -25,18 +25,18 @@ all_into path (Then call next) = bytes_into path call ++ all_into path (next tru
 all_into path (Why next) = all_into path (next None)
 
 -- the path of the host file of a row in the finished folder, if there is something to write of it
-abbrev pub path_of : TaskView → Row → List (List ℕ) → Option Portion → Option (List ℕ)
+abbrev pub path_of : TaskView → ListedRow → List (List ℕ) → Option Portion → Option (List ℕ)
 path_of task row taken None = None
 path_of task row taken (Some portion) = Some (path_in task.done (row_name taken row portion.extent))
 
 -- the host names that are taken after the file of a row
-abbrev pub taken_after : Row → List (List ℕ) → Option Portion → List (List ℕ)
+abbrev pub taken_after : ListedRow → List (List ℕ) → Option Portion → List (List ℕ)
 taken_after row taken None = taken
 taken_after row taken (Some portion) = taken ++ row_name taken row portion.extent ∷ []
 
 -- the lines of rows, one after another, if later files may have this many bytes, and these names
 -- are taken
-unfoldable pub lines_of_rows : TaskView → List Row → Option ℕ → List (List ℕ) → List ℕ
+unfoldable pub lines_of_rows : TaskView → List ListedRow → Option ℕ → List (List ℕ) → List ℕ
 lines_of_rows task [] left taken = []
 lines_of_rows task (row ∷ rows) left taken =
     let portion = portion_within left (portion_of task row) in

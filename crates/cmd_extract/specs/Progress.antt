@@ -8,8 +8,8 @@ use Rattle.d64_files.specs.declared.kind.Kind.{Kind}
 use Rattle.d64_files.specs.declared.kind.Kind.TheVariants as kinds
 use Rattle.d64_inventory.specs.Rows.{FileRowView}
 use Rattle.d64_leftovers.specs.declared.orphan_row.OldSlot.{OldSlot}
-use Rattle.d64_leftovers.specs.declared.row.Row.{Row}
-use Rattle.d64_leftovers.specs.declared.row.Row.TheVariants.{File, Deleted, Orphan}
+use Rattle.d64_leftovers.specs.declared.row.ListedRow.{ListedRow}
+use Rattle.d64_leftovers.specs.declared.row.ListedRow.TheVariants.{File, Deleted, Orphan}
 use Rattle.cmd_extract_contents.specs.Portions.{Portion}
 use Rattle.cmd_extract_contents.specs.RowPortions.{row_portion}
 use Rattle.cmd_extract_contents.specs.Limits.{limit, left_after}
@@ -87,24 +87,24 @@ orphan_stem first None = pair_stem (pair_at first)
 orphan_stem first (Some old) = spelling (name_in old.field)
 
 -- the host name of the file of a row: a deleted file and an orphan have endings that say so
-unfoldable pub row_name : List (List ℕ) → Row → Extent → List ℕ
+unfoldable pub row_name : List (List ℕ) → ListedRow → Extent → List ℕ
 row_name taken (File row) extent = host_name_of_row taken row extent
 row_name taken (Deleted row) extent = next_name taken (spelling (name_in row.field)) endings.Deleted (is_part extent)
 row_name taken (Orphan row) extent = next_name taken (orphan_stem row.first row.old) endings.Orphan (is_part extent)
 
 -- what there is to write of the file of a row
-abbrev pub portion_of : TaskView → Row → Option Portion
+abbrev pub portion_of : TaskView → ListedRow → Option Portion
 portion_of task row = row_portion task.setup.with_parts task.dump.image row
 
 -- the line of a file was added, with the path of its host file, or None if no file was written
-unfoldable pub reported_progress : TaskView → Row → Option (List ℕ) → Progress → Progress
+unfoldable pub reported_progress : TaskView → ListedRow → Option (List ℕ) → Progress → Progress
 reported_progress task row path progress = record progress {
   printed = progress.printed ++ printed_file task.setup.form task.name task.dump.image row path;
   lines = progress.lines ++ printed_file (as_json task.setup.form) task.name task.dump.image row path;
 }
 
 -- after this file fewer bytes are left for later ones
-abbrev pub spent_progress : TaskView → Row → Progress → Progress
+abbrev pub spent_progress : TaskView → ListedRow → Progress → Progress
 spent_progress task row progress = record progress { left = left_after progress.left (portion_of task row) }
 
 -- a host name is taken
@@ -117,11 +117,11 @@ failed_at path reason progress =
     record progress { complaint = with_known_reason reason (progress.complaint ++ unwritten_line path); has_failed = true }
 
 -- the file of a row was written under a host name
-abbrev pub written_progress : TaskView → Row → List ℕ → Progress → Progress
+abbrev pub written_progress : TaskView → ListedRow → List ℕ → Progress → Progress
 written_progress task row file progress = reported_progress task row (Some (path_in task.done file)) progress
 
 -- the file of a row could not be written
-abbrev pub unwritten_progress : TaskView → Row → List ℕ → Option Reason → Progress → Progress
+abbrev pub unwritten_progress : TaskView → ListedRow → List ℕ → Option Reason → Progress → Progress
 unwritten_progress task row file reason progress = reported_progress task row None (failed_at (path_in task.partial file) reason progress)
 
 -- the lines that waited are in the list

@@ -4,7 +4,7 @@ use Rattle.std.specs.Str.{is_utf8}
 use Rattle.d64_image.specs.Disk.{Bytes}
 use Rattle.d64_survey.specs.Dump.{DumpView}
 use Rattle.d64_leftovers.specs.Rows.{wanted_rows}
-use Rattle.d64_leftovers.specs.declared.row.Row.{Row}
+use Rattle.d64_leftovers.specs.declared.row.ListedRow.{ListedRow}
 use Rattle.d64_inventory.specs.ListingAmiss.{is_listing_amiss}
 use Rattle.cmd_extract_contents.specs.Portions.{Portion}
 use Rattle.cmd_extract_contents.specs.Limits.{portion_within}
@@ -111,23 +111,23 @@ abbrev pub list_work : TaskView → Progress → Work
 list_work task progress = put_work progress.list task progress (name_work task)
 
 -- a file was written, or could not be; then comes the rest
-abbrev pub after_writing : TaskView → Row → List ℕ → Progress → (Progress → Work) → Bool → Work
+abbrev pub after_writing : TaskView → ListedRow → List ℕ → Progress → (Progress → Work) → Bool → Work
 after_writing task row file progress rest true = rest (written_progress task row file progress)
 after_writing task row file progress rest false = Why (λ reason. rest (unwritten_progress task row file reason progress))
 
 -- a file is written under a host name that is taken; then comes the rest
-abbrev pub write_work : TaskView → Row → List ℕ → Bytes → Progress → (Progress → Work) → Work
+abbrev pub write_work : TaskView → ListedRow → List ℕ → Bytes → Progress → (Progress → Work) → Work
 write_work task row file bytes progress rest = Then (NewFile (path_in task.partial file) bytes) (after_writing task row file progress rest)
 
 -- the file of a row is written, if there is something to write; then comes the rest
-unfoldable pub file_work : TaskView → Row → Progress → Option Portion → (Progress → Work) → Work
+unfoldable pub file_work : TaskView → ListedRow → Progress → Option Portion → (Progress → Work) → Work
 file_work task row progress None rest = rest (reported_progress task row None progress)
 file_work task row progress (Some portion) rest =
     let file = row_name progress.taken row portion.extent in
     write_work task row file portion.bytes (named_progress file progress) rest
 
 -- the files of rows are written, one after another, and their lines in the list of the files
-unfoldable pub files_work : TaskView → List Row → Progress → Work
+unfoldable pub files_work : TaskView → List ListedRow → Progress → Work
 files_work task [] progress = list_work task (closed_progress task progress)
 files_work task (row ∷ wanted_rows) progress =
     file_work task row (spent_progress task row progress) (portion_within progress.left (portion_of task row))

@@ -8,7 +8,7 @@ ghost use Rattle.program_batch.specs.Reasons.{with_known_reason};
 ghost use Rattle.cmd_extract.specs.Unpacking.{refused_answer, unread_answer, wrong_length_answer, present_answer, skipped_answer, unmade_answer, unnamed_answer, unfinished_answer, finished_answer};
 
 use crate::files::Files;
-use crate::setup::{Setup, Task};
+use crate::setup::{ExtractSetup, Task};
 use cmd_extract_contents::ContentExtraction;
 use cmd_files::{print_error, print_length};
 use d64_inventory::is_amiss;
@@ -30,7 +30,7 @@ fn emptied(scratch: &Scratch, buffer: &mut ReportBuffer) -> Vec<u8>
 
 /// Puts the error of an image into the buffer, which has the complaint.
 fn refuse(
-    setup: &Setup,
+    setup: &ExtractSetup,
     scratch: &mut Scratch,
     name: &[u8],
     error: &str,
@@ -45,7 +45,7 @@ fn refuse(
 
 /// Puts that a file cannot be read into the buffer.
 pub(crate) fn report_unread(
-    setup: &Setup,
+    setup: &ExtractSetup,
     scratch: &mut Scratch,
     name: &[u8],
     buffer: &mut ReportBuffer,
@@ -59,7 +59,7 @@ pub(crate) fn report_unread(
 
 /// Puts that a file with these bytes is not a dump into the buffer.
 pub(crate) fn report_wrong_length(
-    setup: &Setup,
+    setup: &ExtractSetup,
     scratch: &mut Scratch,
     name: &[u8],
     bytes: &[u8],

@@ -24,7 +24,7 @@ use cmd_extract_contents::{ContentExtraction, Extent};
 use cmd_files::print_after;
 use d64_files::name_in;
 use d64_image::BlockNo;
-use d64_leftovers::{OldSlot, OrphanRow, Row, RowList};
+use d64_leftovers::{ListedRow, OldSlot, OrphanRow, RowList};
 use host_names::{Ending, TakenNames};
 use host_storage::Host;
 use itoa::Buffer;
@@ -113,7 +113,7 @@ fn take_orphan_name(
 fn name_file(
     taken: &mut TakenNames,
     text: &mut Vec<u8>,
-    row: &Row,
+    row: &ListedRow,
     extent: Extent,
     name: &mut Vec<u8>,
 ) -> Result<(), AllocError>
@@ -121,9 +121,18 @@ fn name_file(
     ensures taken { OnOk result (taken.new ≡ taken.old ++ name.new.items ∷ []) }
 {
     match row {
-        Row::File(file) => take_name(taken, text, &file.field, ending_by(file.kind), extent, name),
-        Row::Deleted(file) => { take_name(taken, text, &file.field, Ending::Deleted, extent, name) }
-        Row::Orphan(chain) => take_orphan_name(taken, text, chain, extent, name),
+        ListedRow::File(file) => take_name(
+            taken,
+            text,
+            &file.field,
+            ending_by(file.kind),
+            extent,
+            name,
+        ),
+        ListedRow::Deleted(file) => {
+            take_name(taken, text, &file.field, Ending::Deleted, extent, name)
+        }
+        ListedRow::Orphan(chain) => take_orphan_name(taken, text, chain, extent, name),
     }
 }
 
@@ -151,7 +160,7 @@ impl Files {
     }
 
     /// Adds the line of a file that was written under its host name.
-    fn report_written(&mut self, task: &Task, row: &Row) -> Result<(), AllocError>
+    fn report_written(&mut self, task: &Task, row: &ListedRow) -> Result<(), AllocError>
         ensures { OnOk result (progress_of_files self.new ≡ written_progress task.now row.now self.old.name.items (progress_of_files self.old)) }
     {
         put_path(&mut self.path, &task.done, &self.name)?;
@@ -163,7 +172,7 @@ impl Files {
     fn report_unwritten(
         &mut self,
         task: &Task,
-        row: &Row,
+        row: &ListedRow,
         reason: Option<Reason>,
     ) -> Result<(), AllocError>
         ensures { OnOk result (progress_of_files self.new ≡ unwritten_progress task.now row.now self.old.name.items reason (progress_of_files self.old)) }
@@ -177,7 +186,7 @@ impl Files {
     fn write_file<H: Host>(
         &mut self,
         task: &Task,
-        row: &Row,
+        row: &ListedRow,
         host: &mut H,
     ) -> Result<(), AllocError>
         ensures { (rest : Progress → Work) → Comes result
@@ -197,7 +206,7 @@ impl Files {
     fn unpack_file<H: Host>(
         &mut self,
         task: &Task,
-        row: &Row,
+        row: &ListedRow,
         host: &mut H,
     ) -> Result<(), AllocError>
         ensures { (rest : Progress → Work) → Comes result
@@ -273,7 +282,7 @@ impl Files {
     fn unpack_row<H: Host>(
         &mut self,
         task: &Task,
-        row: &Row,
+        row: &ListedRow,
         host: &mut H,
     ) -> Result<(), AllocError>
         ensures { (rest : Progress → Work) → Comes result

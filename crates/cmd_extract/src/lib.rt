@@ -17,5 +17,5 @@ mod unpacker;
 
 pub use ending::ending_by;
 pub use paths::{done_path, put_path};
-pub use setup::Setup;
+pub use setup::ExtractSetup;
 pub use unpacker::Unpacker;

@@ -10,7 +10,7 @@ use crate::answering::add_unwritten;
 use crate::list_state::ListState;
 use crate::setup::Task;
 use cmd_files::{print_after, print_before, print_file};
-use d64_leftovers::Row;
+use d64_leftovers::ListedRow;
 use out_json_csv::Scratch;
 use program_batch::Reason;
 use std::alloc::{AllocError, Global};
@@ -74,7 +74,7 @@ impl Reported {
     pub(crate) fn report(
         &mut self,
         task: &Task,
-        row: &Row,
+        row: &ListedRow,
         path: Option<&[u8]>,
     ) -> Result<(), AllocError>
         ensures printed { OnOk result (self.new.printed.items ≡ self.old.printed.items ++ printed_file task.now.setup.form task.now.name task.now.dump.image row.now (option_map (λ p. p.now) path.entry)) }

@@ -1,4 +1,4 @@
-//! `Setup`: the options of `extract`; and `Task`: an image whose folder is to be made.
+//! `ExtractSetup`: the options of `extract`; and `Task`: an image whose folder is to be made.
 
 use cmd_files::Form;
 use d64_survey::Inspection;
@@ -7,7 +7,7 @@ use std::marker::Model;
 
 /// The options of an extraction.
 #[derive(Drop)]
-pub struct Setup {
+pub struct ExtractSetup {
     /// The folder below which all is written. It must exist.
     pub into: String,
     /// Whether parts of files without content are written too.
@@ -18,7 +18,7 @@ pub struct Setup {
     pub form: Form,
 }
 
-impl Model for Setup {
+impl Model for ExtractSetup {
     ghost use Rattle.std.specs.Prelude.{string_bytes};
     ghost use Rattle.cmd_extract.specs.Setup.{ExtractSetupView};
 
@@ -31,7 +31,7 @@ impl Model for Setup {
 #[derive(Drop)]
 pub(crate) struct Task<'a, 'd> {
     pub(crate) alloc: Global,
-    pub(crate) setup: &'a Setup,
+    pub(crate) setup: &'a ExtractSetup,
     /// The name of its file on the host.
     pub(crate) name: &'a str,
     pub(crate) all: &'a Inspection<'d>,

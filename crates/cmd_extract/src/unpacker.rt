@@ -7,7 +7,7 @@ ghost use Rattle.cmd_extract.specs.Unpacking.{task_work, task_of, unpacking};
 use crate::answering::{report_unread, report_wrong_length};
 use crate::files::Files;
 use crate::paths::{done_path, partial_path};
-use crate::setup::{Setup, Task};
+use crate::setup::{ExtractSetup, Task};
 use cmd_files::print_extract_heading;
 use d64_g64::refill_from;
 use d64_image::Image;
@@ -22,7 +22,7 @@ use std::mem;
 #[derive(Drop)]
 pub struct Unpacker {
     alloc: Global,
-    setup: Setup,
+    setup: ExtractSetup,
     dump: Dump,
     faults: Vec<Fault>,
     errors: Vec<ReadError>,
@@ -31,7 +31,7 @@ pub struct Unpacker {
 
 impl Unpacker {
     /// Returns an unpacker with these options.
-    pub fn new(alloc: Global, setup: Setup) -> Result<Unpacker, AllocError>
+    pub fn new(alloc: Global, setup: ExtractSetup) -> Result<Unpacker, AllocError>
         ensures { IfOk result (λ unpacker. unpacker.setup ≡ setup) }
     {
         Ok(Unpacker {

@@ -7,7 +7,7 @@ ghost use Rattle.cmd_extract_contents.specs.Limits.{remaining_bytes, left_after,
 use crate::extent::Extent;
 use crate::finding::{put_content_along, put_deleted, put_portion};
 use d64_files::SlotNo;
-use d64_leftovers::Row;
+use d64_leftovers::ListedRow;
 use d64_survey::Survey;
 use std::alloc::AllocError;
 use std::marker::Model;
@@ -78,7 +78,7 @@ impl ContentExtraction {
     pub fn next_row(
         &mut self,
         survey: &Survey,
-        row: &Row,
+        row: &ListedRow,
         with_parts: bool,
         bytes: &mut Vec<u8>,
     ) -> Result<Option<Extent>, AllocError>
@@ -87,12 +87,12 @@ impl ContentExtraction {
         ensures left { OnOk result (self.new ≡ left_after self.old (row_portion with_parts survey.now row.now)) }
     {
         match row {
-            Row::File(file) => self.next(survey, SlotNo::at(file.slot), with_parts, bytes),
-            Row::Deleted(file) => {
+            ListedRow::File(file) => self.next(survey, SlotNo::at(file.slot), with_parts, bytes),
+            ListedRow::Deleted(file) => {
                 let found = put_deleted(bytes, survey.image(), file, with_parts)?;
                 Ok(self.within(found, bytes))
             }
-            Row::Orphan(chain) => {
+            ListedRow::Orphan(chain) => {
                 let first = chain.first;
                 let image = survey.image();
                 let found = put_content_along(bytes, image, first.track(), first.sector())?;

@@ -3,8 +3,8 @@ use Rattle.std.specs.Prelude.{ℕ, if◌then◌else◌, List, [], ◌∷◌, ◌
 use Rattle.csv.specs.Writing.{row_text, default_writer}
 use Rattle.d64_image.specs.Disk.{Bytes}
 use Rattle.d64_leftovers.specs.Rows.{is_deleted, is_orphan}
-use Rattle.d64_leftovers.specs.declared.row.Row.{Row}
-use Rattle.d64_leftovers.specs.declared.row.Row.TheVariants.{File, Deleted, Orphan}
+use Rattle.d64_leftovers.specs.declared.row.ListedRow.{ListedRow}
+use Rattle.d64_leftovers.specs.declared.row.ListedRow.TheVariants.{File, Deleted, Orphan}
 use Rattle.program_arguments.specs.declared.jobs.Leftovers.{Leftovers}
 use Rattle.out_json_csv.specs.Rows.{truth_text, host_field}
 use Rattle.cmd_files.specs.FileRow.{file_fields}
@@ -26,7 +26,7 @@ abbrev pub leftover_columns : Leftovers → List (List ℕ)
 leftover_columns leftovers = leftover_texts leftovers (codes "deleted") (codes "orphan")
 
 -- whether the file of a row was deleted, and whether it is an orphan
-abbrev pub leftover_fields : Leftovers → Row → List (List ℕ)
+abbrev pub leftover_fields : Leftovers → ListedRow → List (List ℕ)
 leftover_fields leftovers row = leftover_texts leftovers (truth_text (is_deleted row)) (truth_text (is_orphan row))
 
 -- nothing in these columns
@@ -42,13 +42,13 @@ abbrev pub place_fields : Bytes → ℕ → List (List ℕ)
 place_fields name slot = host_field name ∷ decimal slot ∷ []
 
 -- the fields of a row, with its place
-unfoldable pub row_fields : Bytes → Row → List (List ℕ)
+unfoldable pub row_fields : Bytes → ListedRow → List (List ℕ)
 row_fields name (File row) = place_fields name row.slot ++ file_fields row
 row_fields name (Deleted row) = place_fields name row.slot ++ deleted_fields row
 row_fields name (Orphan row) = (host_field name ∷ [] ∷ []) ++ orphan_fields row
 
 -- the row of CSV for a row of an image with this host name; it has no error
-unfoldable pub csv_row : Leftovers → Bytes → Row → List ℕ
+unfoldable pub csv_row : Leftovers → Bytes → ListedRow → List ℕ
 csv_row leftovers name row = row_with (row_fields name row ++ leftover_fields leftovers row) []
 
 -- the header row

@@ -3,7 +3,7 @@ use Rattle.std.specs.Prelude.{ℕ, List, [], ◌∷◌, ◌++◌, Option, Some, 
 use Rattle.std.specs.Option.{option_map_or}
 use Rattle.json.specs.Json.{Json, null}
 use Rattle.d64_image.specs.Disk.{Disk, Bytes}
-use Rattle.d64_leftovers.specs.declared.row.Row.{Row}
+use Rattle.d64_leftovers.specs.declared.row.ListedRow.{ListedRow}
 use Rattle.program_arguments.specs.declared.jobs.Leftovers.{Leftovers}
 use Rattle.out_json_csv.specs.Rows.{host_field}
 use Rattle.out_json_csv.specs.Values.{Field, object_of}
@@ -18,7 +18,7 @@ abbrev pub path_member : Option Bytes → Field
 path_member path = (codes "file", option_map_or host_value path null)
 
 -- the object of a row of an image with this host name, and the path of its host file
-unfoldable pub extracted_object : Leftovers → Bytes → Row → Option Bytes → Json
+unfoldable pub extracted_object : Leftovers → Bytes → ListedRow → Option Bytes → Json
 extracted_object leftovers name row path = object_of (row_members name row ++ (path_member path ∷ leftover_members leftovers row))
 
 -- the field with the path of the host file; empty if no file was written
@@ -26,7 +26,7 @@ abbrev pub path_field : Option Bytes → List ℕ
 path_field path = option_map_or host_field path []
 
 -- the row of CSV of it: the path comes before what is left over and the error, which is empty
-unfoldable pub extracted_row : Leftovers → Bytes → Row → Option Bytes → List ℕ
+unfoldable pub extracted_row : Leftovers → Bytes → ListedRow → Option Bytes → List ℕ
 extracted_row leftovers name row path = row_with (row_fields name row ++ (path_field path ∷ leftover_fields leftovers row)) []
 
 -- the path of the host file, at the end of a line for people
@@ -35,7 +35,7 @@ path_text None = codes ", not written"
 path_text (Some path) = codes " -> " ++ shown_name path
 
 -- the line of such a slot
-unfoldable pub extracted_line : Disk → Row → Option Bytes → List ℕ
+unfoldable pub extracted_line : Disk → ListedRow → Option Bytes → List ℕ
 extracted_line image row path = row_text image row ++ (path_text path ++ codes "\n")
 
 -- the header row

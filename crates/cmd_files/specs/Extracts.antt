@@ -1,7 +1,7 @@
 -- What is printed of images whose files are written to the host.
 use Rattle.std.specs.Prelude.{ℕ, List, [], Option, codes}
 use Rattle.d64_image.specs.Disk.{Disk, Bytes}
-use Rattle.d64_leftovers.specs.declared.row.Row.{Row}
+use Rattle.d64_leftovers.specs.declared.row.ListedRow.{ListedRow}
 use Rattle.program_arguments.specs.declared.jobs.Format.{Format}
 use Rattle.program_arguments.specs.declared.jobs.Format.TheVariants.{Text, Json, Csv}
 use Rattle.program_arguments.specs.declared.jobs.Leftovers.{Leftovers}
@@ -12,13 +12,13 @@ use Rattle.cmd_files.specs.Extracted.{extracted_object, extracted_row, extracted
 
 -- what is printed of a row of an image with this host name, and the path of its host file, in a
 -- format
-abbrev pub file_printed : Format → Leftovers → Bytes → Disk → Row → Option Bytes → List ℕ
+abbrev pub file_printed : Format → Leftovers → Bytes → Disk → ListedRow → Option Bytes → List ℕ
 file_printed Text leftovers name image row path = extracted_line image row path
 file_printed Json leftovers name image row path = line_of (extracted_object leftovers name row path)
 file_printed Csv leftovers name image row path = extracted_row leftovers name row path
 
 -- the same in a form
-abbrev pub printed_file : Form → Bytes → Disk → Row → Option Bytes → List ℕ
+abbrev pub printed_file : Form → Bytes → Disk → ListedRow → Option Bytes → List ℕ
 printed_file form name image row path = file_printed form.format form.leftovers name image row path
 
 -- a form with JSON as its format

@@ -4,7 +4,7 @@ use Rattle.std.specs.List.{flat_map}
 use Rattle.d64_image.specs.Disk.{Disk, Bytes}
 use Rattle.d64_survey.specs.Dump.{DumpView}
 use Rattle.d64_leftovers.specs.Rows.{wanted_rows}
-use Rattle.d64_leftovers.specs.declared.row.Row.{Row}
+use Rattle.d64_leftovers.specs.declared.row.ListedRow.{ListedRow}
 use Rattle.d64_leftovers.specs.declared.selection.Selection.{Selection}
 use Rattle.d64_inventory.specs.ListingAmiss.{is_listing_amiss}
 use Rattle.program_arguments.specs.declared.jobs.Format.{Format}
@@ -24,13 +24,13 @@ use Rattle.cmd_files.specs.declared.printing.Section.{Section}
 use Rattle.cmd_files.specs.declared.printing.Section.TheVariants.{Deleted, Orphans}
 
 -- what is printed of a row of an image with this host name, in a format
-abbrev pub row_printed : Format → Leftovers → Bytes → Disk → Row → List ℕ
+abbrev pub row_printed : Format → Leftovers → Bytes → Disk → ListedRow → List ℕ
 row_printed Text leftovers name image row = line_of_row image row
 row_printed Json leftovers name image row = line_of (row_object leftovers name row)
 row_printed Csv leftovers name image row = csv_row leftovers name row
 
 -- the same in a form
-abbrev pub printed_row : Form → Bytes → Disk → Row → List ℕ
+abbrev pub printed_row : Form → Bytes → Disk → ListedRow → List ℕ
 printed_row form name image row = row_printed form.format form.leftovers name image row
 
 -- what is printed of an image before its files

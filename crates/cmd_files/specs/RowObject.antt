@@ -3,8 +3,8 @@ use Rattle.std.specs.Prelude.{ℕ, if◌then◌else◌, List, [], ◌∷◌, ◌
 use Rattle.json.specs.Json.{Json, boolean, null}
 use Rattle.d64_image.specs.Disk.{Bytes}
 use Rattle.d64_leftovers.specs.Rows.{is_deleted, is_orphan}
-use Rattle.d64_leftovers.specs.declared.row.Row.{Row}
-use Rattle.d64_leftovers.specs.declared.row.Row.TheVariants.{File, Deleted, Orphan}
+use Rattle.d64_leftovers.specs.declared.row.ListedRow.{ListedRow}
+use Rattle.d64_leftovers.specs.declared.row.ListedRow.TheVariants.{File, Deleted, Orphan}
 use Rattle.program_arguments.specs.declared.jobs.Leftovers.{Leftovers}
 use Rattle.out_json_csv.specs.Values.{Field, object_of, numeral}
 use Rattle.out_json_csv.specs.Unanswered.{image_member}
@@ -21,18 +21,18 @@ abbrev pub orphan_place : Bytes → List Field
 orphan_place name = image_member name ∷ (codes "slot", null) ∷ []
 
 -- the members of a row, with its place
-unfoldable pub row_members : Bytes → Row → List Field
+unfoldable pub row_members : Bytes → ListedRow → List Field
 row_members name (File row) = place_members name row.slot ++ file_members row
 row_members name (Deleted row) = place_members name row.slot ++ deleted_members row
 row_members name (Orphan row) = orphan_place name ++ orphan_members row
 
 -- whether the file was deleted, where deleted files are wanted, and whether it is an orphan, where
 -- those are
-abbrev pub leftover_members : Leftovers → Row → List Field
+abbrev pub leftover_members : Leftovers → ListedRow → List Field
 leftover_members leftovers row =
     (if leftovers.deleted then (codes "deleted", boolean (is_deleted row)) ∷ [] else [])
     ++ (if leftovers.orphans then (codes "orphan", boolean (is_orphan row)) ∷ [] else [])
 
 -- what is printed of a row of an image with this host name
-unfoldable pub row_object : Leftovers → Bytes → Row → Json
+unfoldable pub row_object : Leftovers → Bytes → ListedRow → Json
 row_object leftovers name row = object_of (row_members name row ++ leftover_members leftovers row)

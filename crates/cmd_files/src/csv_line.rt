@@ -14,7 +14,7 @@ use crate::orphan_field::push_orphan_fields;
 use crate::spaced::{spell_flaws, spell_numbers};
 use d64_files::{Kind, name_in};
 use d64_inventory::{Content, FileRow};
-use d64_leftovers::{DeletedRow, OrphanRow, Row};
+use d64_leftovers::{DeletedRow, ListedRow, OrphanRow};
 use out_json_csv::{CsvRow, Scratch, UNREAD, end_row, no_dump_error};
 use out_messages::kind_letters;
 use program_arguments::Leftovers;
@@ -240,13 +240,17 @@ fn begin_orphan_place(scratch: &mut Scratch, name: &[u8]) -> Result<(), AllocErr
 
 /// Begins the row of a file, also of a deleted one, or of an orphan.
 #[tactic(auto, unfolding(crate::specs::CsvRow::row_fields))]
-pub(crate) fn begin_row(scratch: &mut Scratch, name: &[u8], row: &Row) -> Result<(), AllocError>
+pub(crate) fn begin_row(
+    scratch: &mut Scratch,
+    name: &[u8],
+    row: &ListedRow,
+) -> Result<(), AllocError>
     ensures { OnOk result (scratch.new.row ≡ row_fields name.now row.now) }
 {
     match row {
-        Row::File(file) => begin_file_row(scratch, name, file),
-        Row::Deleted(file) => begin_deleted_row(scratch, name, file),
-        Row::Orphan(chain) => begin_orphan_row(scratch, name, chain),
+        ListedRow::File(file) => begin_file_row(scratch, name, file),
+        ListedRow::Deleted(file) => begin_deleted_row(scratch, name, file),
+        ListedRow::Orphan(chain) => begin_orphan_row(scratch, name, chain),
     }
 }
 
@@ -254,7 +258,7 @@ pub(crate) fn begin_row(scratch: &mut Scratch, name: &[u8], row: &Row) -> Result
 pub(crate) fn push_leftover_fields(
     leftovers: Leftovers,
     line: &mut CsvRow,
-    row: &Row,
+    row: &ListedRow,
 ) -> Result<(), AllocError>
     ensures { OnOk result (line.new ≡ line.old ++ leftover_fields leftovers row.now) }
 {
@@ -290,7 +294,7 @@ pub fn row_csv(
     leftovers: Leftovers,
     scratch: &mut Scratch,
     name: &[u8],
-    row: &Row,
+    row: &ListedRow,
     out: Vec<u8>,
 ) -> Result<Vec<u8>, AllocError>
     ensures { IfOk result (λ text. text.items ≡ out.items ++ csv_row leftovers name.now row.now) }

@@ -6,7 +6,7 @@ use crate::extracted::{
     extracted_csv, extracted_header, extracted_json, push_extracted_line, unextracted_csv,
 };
 use crate::form::Form;
-use d64_leftovers::Row;
+use d64_leftovers::ListedRow;
 use d64_survey::Survey;
 use out_json_csv::{Scratch, no_dump_error, no_dump_json, unanswered_json};
 use program_arguments::Format;
@@ -33,7 +33,7 @@ pub fn print_file(
     scratch: &mut Scratch,
     name: &[u8],
     survey: &Survey,
-    row: &Row,
+    row: &ListedRow,
     path: Option<&[u8]>,
     out: Vec<u8>,
 ) -> Result<Vec<u8>, AllocError>

@@ -9,7 +9,7 @@ use crate::csv_line::{
 };
 use crate::json_line::{put_leftover_members, put_row_members};
 use crate::row_text::push_row_text;
-use d64_leftovers::Row;
+use d64_leftovers::ListedRow;
 use d64_survey::Survey;
 use host_names::push_shown;
 use json::Writer;
@@ -37,7 +37,7 @@ pub(crate) fn extracted_json(
     leftovers: Leftovers,
     scratch: &mut Scratch,
     name: &[u8],
-    row: &Row,
+    row: &ListedRow,
     path: Option<&[u8]>,
     out: Vec<u8>,
 ) -> Result<Vec<u8>, AllocError>
@@ -73,7 +73,7 @@ pub(crate) fn extracted_csv(
     leftovers: Leftovers,
     scratch: &mut Scratch,
     name: &[u8],
-    row: &Row,
+    row: &ListedRow,
     path: Option<&[u8]>,
     out: Vec<u8>,
 ) -> Result<Vec<u8>, AllocError>
@@ -104,7 +104,7 @@ pub(crate) fn push_extracted_line(
     scratch: &mut Vec<u8>,
     out: &mut Vec<u8>,
     survey: &Survey,
-    row: &Row,
+    row: &ListedRow,
     path: Option<&[u8]>,
 ) -> Result<(), AllocError>
     ensures { OnOk result (out.new.items ≡ out.old.items ++ extracted_line survey.now row.now (option_map (λ p. p.now) path.entry)) }

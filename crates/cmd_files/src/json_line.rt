@@ -10,7 +10,7 @@ use crate::deleted_member::put_deleted_members;
 use crate::file_member::put_file_members;
 use crate::orphan_member::put_orphan_members;
 use d64_inventory::FileRow;
-use d64_leftovers::{DeletedRow, OrphanRow, Row};
+use d64_leftovers::{DeletedRow, ListedRow, OrphanRow};
 use json::Writer;
 use out_json_csv::{Scratch, into_line, put_boolean, put_image, put_null, put_number};
 use program_arguments::Leftovers;
@@ -86,14 +86,14 @@ pub(crate) fn put_row_members(
     scratch: &mut Vec<u8>,
     writer: &mut Writer,
     name: &[u8],
-    row: &Row,
+    row: &ListedRow,
 ) -> Result<(), AllocError>
     ensures { PrintsMembers result writer.old writer.new (row_members name.now row.now) }
 {
     match row {
-        Row::File(file) => put_placed_file(scratch, writer, name, file),
-        Row::Deleted(file) => put_placed_deleted(scratch, writer, name, file),
-        Row::Orphan(chain) => put_placed_orphan(scratch, writer, name, chain),
+        ListedRow::File(file) => put_placed_file(scratch, writer, name, file),
+        ListedRow::Deleted(file) => put_placed_deleted(scratch, writer, name, file),
+        ListedRow::Orphan(chain) => put_placed_orphan(scratch, writer, name, chain),
     }
 }
 
@@ -102,7 +102,7 @@ pub(crate) fn put_row_members(
 pub(crate) fn put_leftover_members(
     leftovers: Leftovers,
     writer: &mut Writer,
-    row: &Row,
+    row: &ListedRow,
 ) -> Result<(), AllocError>
     ensures { PrintsMembers result writer.old writer.new (leftover_members leftovers row.now) }
 {
@@ -121,7 +121,7 @@ pub fn row_json(
     leftovers: Leftovers,
     scratch: &mut Scratch,
     name: &[u8],
-    row: &Row,
+    row: &ListedRow,
     out: Vec<u8>,
 ) -> Result<Vec<u8>, AllocError>
     ensures { IfOk result (λ text. text.items ≡ out.items ++ line_of (row_object leftovers name.now row.now)) }

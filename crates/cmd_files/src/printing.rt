@@ -9,7 +9,7 @@ use crate::missing::push_missing_lines;
 use crate::row_text::push_row_line;
 use crate::table::push_head_line;
 use d64_image::Image;
-use d64_leftovers::{Row, RowList, Selection};
+use d64_leftovers::{ListedRow, RowList, Selection};
 use d64_survey::{Inspection, Survey};
 use out_json_csv::Scratch;
 use program_arguments::{Format, Leftovers};
@@ -81,7 +81,7 @@ fn print_row(
     scratch: &mut Scratch,
     name: &[u8],
     survey: &Survey,
-    row: &Row,
+    row: &ListedRow,
     out: Vec<u8>,
 ) -> Result<Vec<u8>, AllocError>
     ensures { IfOk result (λ text. text.items ≡ out.items ++ printed_row form name.now survey.now row.now) }

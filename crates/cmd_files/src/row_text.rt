@@ -5,7 +5,7 @@ ghost use Rattle.cmd_files.specs.RowText.{row_text, line_of_row};
 use crate::deleted_table::push_deleted_text;
 use crate::orphan_table::push_orphan_text;
 use crate::table::push_file_text;
-use d64_leftovers::Row;
+use d64_leftovers::ListedRow;
 use d64_survey::Survey;
 use std::alloc::AllocError;
 
@@ -14,14 +14,14 @@ pub(crate) fn push_row_text(
     scratch: &mut Vec<u8>,
     out: &mut Vec<u8>,
     survey: &Survey,
-    row: &Row,
+    row: &ListedRow,
 ) -> Result<(), AllocError>
     ensures { OnOk result (out.new.items ≡ out.old.items ++ row_text survey.now row.now) }
 {
     match row {
-        Row::File(file) => push_file_text(scratch, out, file),
-        Row::Deleted(file) => push_deleted_text(scratch, out, survey, file),
-        Row::Orphan(chain) => push_orphan_text(scratch, out, chain),
+        ListedRow::File(file) => push_file_text(scratch, out, file),
+        ListedRow::Deleted(file) => push_deleted_text(scratch, out, survey, file),
+        ListedRow::Orphan(chain) => push_orphan_text(scratch, out, chain),
     }
 }
 
@@ -30,7 +30,7 @@ pub(crate) fn push_row_line(
     scratch: &mut Vec<u8>,
     out: &mut Vec<u8>,
     survey: &Survey,
-    row: &Row,
+    row: &ListedRow,
 ) -> Result<(), AllocError>
     ensures { OnOk result (out.new.items ≡ out.old.items ++ line_of_row survey.now row.now) }
 {

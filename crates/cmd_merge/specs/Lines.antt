@@ -9,15 +9,15 @@ use Rattle.d64_merge.specs.Copies.{known_code}
 use Rattle.d64_merge.specs.Choices.{dump_at}
 use Rattle.d64_merge.specs.Merged.{outcome_count, is_outcome}
 use Rattle.d64_merge.specs.declared.choice.Choice.{Choice}
-use Rattle.d64_merge.specs.declared.outcome.Outcome.{Outcome}
-use Rattle.d64_merge.specs.declared.outcome.Outcome.TheVariants.{Same, Taken, Lost, Majority, First, Conflict}
+use Rattle.d64_merge.specs.declared.outcome.BlockOutcome.{BlockOutcome}
+use Rattle.d64_merge.specs.declared.outcome.BlockOutcome.TheVariants.{Same, Taken, Lost, Majority, First, Conflict}
 use Rattle.host_names.specs.Shown.{shown_name}
 use Rattle.out_messages.specs.FaultText.{drive_status_text}
 use Rattle.out_messages.specs.Words.{block_text, counted_text as count_text}
 use Rattle.cmd_merge.specs.Objects.{name_at_place, entry_text}
 
 -- what became of a block, before the name of the file whose bytes were taken
-abbrev pub outcome_text : Outcome → List ℕ
+abbrev pub outcome_text : BlockOutcome → List ℕ
 outcome_text Same = codes " is the same in all: "
 outcome_text Taken = codes " taken from "
 outcome_text Lost = codes " lost: no dump has a good copy; the bytes are those of "

@@ -9,14 +9,14 @@ use Rattle.d64_survey.specs.Dump.{DumpView}
 use Rattle.d64_merge.specs.Copies.{known_code}
 use Rattle.d64_merge.specs.Merged.{outcome_count, is_outcome}
 use Rattle.d64_merge.specs.declared.choice.Choice.{Choice}
-use Rattle.d64_merge.specs.declared.outcome.Outcome.{Outcome}
-use Rattle.d64_merge.specs.declared.outcome.Outcome.TheVariants.{Same, Taken, Lost, Majority, First, Conflict}
+use Rattle.d64_merge.specs.declared.outcome.BlockOutcome.{BlockOutcome}
+use Rattle.d64_merge.specs.declared.outcome.BlockOutcome.TheVariants.{Same, Taken, Lost, Majority, First, Conflict}
 use Rattle.out_json_csv.specs.Pairs.{block_field}
 use Rattle.out_json_csv.specs.Values.{Field, object_of, array_of, numeral, numeral_or_null, line_of}
 use Rattle.out_json_csv.specs.Unanswered.{host_value}
 
 -- the word for what became of a block
-abbrev pub outcome_word : Outcome → List ℕ
+abbrev pub outcome_word : BlockOutcome → List ℕ
 outcome_word Same = codes "same"
 outcome_word Taken = codes "taken"
 outcome_word Lost = codes "lost"
@@ -68,7 +68,7 @@ merged_size_members out tracks with_codes list =
     (codes "out", host_value out) ∷ (codes "tracks", numeral tracks) ∷ (codes "codes", boolean with_codes) ∷ (codes "blocks", numeral (length list)) ∷ []
 
 -- how many blocks have an outcome; and that for each outcome other than `Same`
-abbrev pub count_member : Outcome → List Choice → Field
+abbrev pub count_member : BlockOutcome → List Choice → Field
 count_member outcome list = (outcome_word outcome, numeral (outcome_count outcome list))
 
 abbrev pub outcome_members : List Choice → List Field

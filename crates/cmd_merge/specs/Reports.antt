@@ -7,7 +7,7 @@ use Rattle.d64_g64.specs.DumpOf.{dump_of}
 use Rattle.d64_merge.specs.Merged.{merged_tracks, choices, outcome_count, keeps_codes, merged}
 use Rattle.d64_merge.specs.Left.{left}
 use Rattle.d64_merge.specs.declared.choice.Choice.{Choice}
-use Rattle.d64_merge.specs.declared.outcome.Outcome.TheVariants.{Lost, First, Conflict}
+use Rattle.d64_merge.specs.declared.outcome.BlockOutcome.TheVariants.{Lost, First, Conflict}
 use Rattle.out_json_csv.specs.Values.{line_of}
 use Rattle.out_messages.specs.FaultLines.{present_line, unwritten_line}
 use Rattle.program_batch.specs.Answers.{Answer}

@@ -7,7 +7,7 @@ ghost use Rattle.cmd_merge.specs.Reports.{made, choices_of, left_of, file_presen
 
 use crate::readings::Readings;
 use crate::report::{Plan, plan_of, print_report, verdict_on};
-use crate::setup::Setup;
+use crate::setup::MergeSetup;
 use d64_merge::{keeps_codes, merged_bytes};
 use host_storage::Host;
 use out_json_csv::Scratch;
@@ -18,7 +18,7 @@ use std::alloc::{AllocError, Global};
 use std::mem;
 
 /// Replaces the buffer's contents by the line that the file to be made is there already.
-pub fn say_present(setup: &Setup, buffer: &mut ReportBuffer) -> Result<Verdict, AllocError>
+pub fn say_present(setup: &MergeSetup, buffer: &mut ReportBuffer) -> Result<Verdict, AllocError>
     ensures { IfOk result (λ verdict. answer_of buffer.new.printed.items buffer.new.complaint.items verdict ≡ file_present_answer setup.now) }
 {
     buffer.clear();
@@ -41,7 +41,7 @@ fn say_faults(readings: &Readings, buffer: &mut ReportBuffer) -> Result<Verdict,
 /// None if a conflict forbade it, and returns the verdict on the blocks.
 fn say_merged(
     alloc: Global,
-    setup: &Setup,
+    setup: &MergeSetup,
     readings: &Readings,
     plan: &Plan,
     bytes: Option<&[u8]>,
@@ -66,7 +66,7 @@ fn say_merged(
 /// reason (None if unknown).
 fn say_unwritten(
     alloc: Global,
-    setup: &Setup,
+    setup: &MergeSetup,
     readings: &Readings,
     plan: &Plan,
     reason: Option<Reason>,
@@ -89,7 +89,7 @@ fn say_unwritten(
 /// buffer's contents by the report.
 fn write<H: Host>(
     alloc: Global,
-    setup: &Setup,
+    setup: &MergeSetup,
     readings: &Readings,
     plan: &Plan,
     host: &mut H,
@@ -119,7 +119,7 @@ fn write<H: Host>(
 /// the file may have been made, whole.
 pub fn finish<H: Host>(
     alloc: Global,
-    setup: &Setup,
+    setup: &MergeSetup,
     readings: &Readings,
     host: &mut H,
     buffer: &mut ReportBuffer,

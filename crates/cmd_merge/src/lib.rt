@@ -11,4 +11,4 @@ mod setup;
 
 pub use finishing::{finish, say_present};
 pub use readings::Readings;
-pub use setup::Setup;
+pub use setup::MergeSetup;

@@ -6,7 +6,7 @@ ghost use Rattle.cmd_merge.specs.Lines.{codes_text, outcome_text, source_text, e
 
 use crate::objects::{Summary, entry_text, name_at};
 use d64_image::BlockNo;
-use d64_merge::{Choice, Outcome, count_of, dump_at, is_outcome, known_code};
+use d64_merge::{BlockOutcome, Choice, count_of, dump_at, is_outcome, known_code};
 use d64_survey::{Dump, drive_status, is_read_error};
 use hex::encode_to_slice;
 use host_names::push_shown;
@@ -14,16 +14,17 @@ use out_messages::{push_block, push_count, push_number, push_status};
 use std::alloc::AllocError;
 
 /// Returns what is printed of an outcome, before the name of the file whose bytes were taken.
-fn outcome_text(outcome: Outcome) -> &'static [u8]
+fn outcome_text(outcome: BlockOutcome) -> &'static [u8]
     ensures { result.now ≡ outcome_text outcome }
 {
     match outcome {
-        Outcome::Same => b" is the same in all: ",
-        Outcome::Taken => b" taken from ",
-        Outcome::Lost => b" lost: no dump has a good copy; the bytes are those of ",
-        Outcome::Majority => b" differs: taken, as in more than half of the good copies, from ",
-        Outcome::First => b" differs: taken from the first good copy, in ",
-        Outcome::Conflict => b" differs in good copies, and none of them is taken",
+        BlockOutcome::Same => b" is the same in all: ",
+        BlockOutcome::Taken => b" taken from ",
+        BlockOutcome::Lost => b" lost: no dump has a good copy; the bytes are those of ",
+        BlockOutcome::Majority =>
+            b" differs: taken, as in more than half of the good copies, from ",
+        BlockOutcome::First => b" differs: taken from the first good copy, in ",
+        BlockOutcome::Conflict => b" differs in good copies, and none of them is taken",
     }
 }
 
@@ -136,7 +137,7 @@ fn push_line(
 ) -> Result<(), AllocError>
     ensures { OnOk result (out.new.items ≡ out.old.items ++ line_of_choice (map string_bytes names.now) dumps.now choice.now) }
 {
-    if is_outcome(Outcome::Same, choice.outcome) {
+    if is_outcome(BlockOutcome::Same, choice.outcome) {
         return Ok(());
     }
     push_choice(out, names, dumps, choice)
@@ -176,10 +177,10 @@ fn push_if_any(out: &mut Vec<u8>, count: usize, word: &[u8]) -> Result<(), Alloc
 fn push_settled(out: &mut Vec<u8>, list: &[Choice]) -> Result<(), AllocError>
     ensures { OnOk result (out.new.items ≡ out.old.items ++ settled_text list.now) }
 {
-    push_number(out, count_of(Outcome::Same, list))?;
+    push_number(out, count_of(BlockOutcome::Same, list))?;
     out.extend_from_slice(b" the same in all dumps")?;
-    push_if_any(out, count_of(Outcome::Taken, list), b" taken")?;
-    push_if_any(out, count_of(Outcome::Lost, list), b" lost")
+    push_if_any(out, count_of(BlockOutcome::Taken, list), b" taken")?;
+    push_if_any(out, count_of(BlockOutcome::Lost, list), b" lost")
 }
 
 /// Appends how many blocks whose good copies differ have each outcome.
@@ -187,13 +188,13 @@ fn push_settled(out: &mut Vec<u8>, list: &[Choice]) -> Result<(), AllocError>
 fn push_differing(out: &mut Vec<u8>, list: &[Choice]) -> Result<(), AllocError>
     ensures { OnOk result (out.new.items ≡ out.old.items ++ differing_text list.now) }
 {
-    push_if_any(out, count_of(Outcome::Majority, list), b" by majority")?;
+    push_if_any(out, count_of(BlockOutcome::Majority, list), b" by majority")?;
     push_if_any(
         out,
-        count_of(Outcome::First, list),
+        count_of(BlockOutcome::First, list),
         b" from the first good copy",
     )?;
-    push_if_any(out, count_of(Outcome::Conflict, list), b" in conflict")
+    push_if_any(out, count_of(BlockOutcome::Conflict, list), b" in conflict")
 }
 
 /// Appends how many blocks have each outcome.

@@ -6,7 +6,7 @@ ghost use Rattle.cmd_merge.specs.Objects.{outcome_word, name_at_place, name_or_n
 
 use arrayvec::ArrayString;
 use d64_image::BlockNo;
-use d64_merge::{Choice, Outcome, count_of, is_outcome, known_code};
+use d64_merge::{BlockOutcome, Choice, count_of, is_outcome, known_code};
 use d64_survey::Dump;
 use itoa::Buffer;
 use json::Writer;
@@ -37,16 +37,16 @@ pub(crate) struct Summary<'a> {
 }
 
 /// Returns the word for an outcome.
-fn outcome_word(outcome: Outcome) -> &'static str
+fn outcome_word(outcome: BlockOutcome) -> &'static str
     ensures { result.now ≡ outcome_word outcome }
 {
     match outcome {
-        Outcome::Same => "same",
-        Outcome::Taken => "taken",
-        Outcome::Lost => "lost",
-        Outcome::Majority => "majority",
-        Outcome::First => "first",
-        Outcome::Conflict => "conflict",
+        BlockOutcome::Same => "same",
+        BlockOutcome::Taken => "taken",
+        BlockOutcome::Lost => "lost",
+        BlockOutcome::Majority => "majority",
+        BlockOutcome::First => "first",
+        BlockOutcome::Conflict => "conflict",
     }
 }
 
@@ -147,7 +147,7 @@ fn choice_line(
 ) -> Result<Vec<u8>, AllocError>
     ensures { IfOk result (λ text. text.items ≡ out.items ++ choice_line (map string_bytes names.now) dumps.now choice.now) }
 {
-    if is_outcome(Outcome::Same, choice.outcome) {
+    if is_outcome(BlockOutcome::Same, choice.outcome) {
         return Ok(out);
     }
     choice_json(scratch, names, dumps, choice, out)
@@ -197,7 +197,7 @@ fn put_size(scratch: &mut Vec<u8>, writer: &mut Writer, summary: &Summary) -> Re
 }
 
 /// Prints how many blocks have an outcome.
-fn put_count(writer: &mut Writer, outcome: Outcome, list: &[Choice]) -> Result<(), AllocError>
+fn put_count(writer: &mut Writer, outcome: BlockOutcome, list: &[Choice]) -> Result<(), AllocError>
     ensures { PrintsMembers result writer.old writer.new (count_member outcome list.now ∷ []) }
 {
     put_number(
@@ -211,11 +211,11 @@ fn put_count(writer: &mut Writer, outcome: Outcome, list: &[Choice]) -> Result<(
 fn put_counts(writer: &mut Writer, list: &[Choice]) -> Result<(), AllocError>
     ensures { PrintsMembers result writer.old writer.new (outcome_members list.now) }
 {
-    put_count(writer, Outcome::Taken, list)?;
-    put_count(writer, Outcome::Lost, list)?;
-    put_count(writer, Outcome::Majority, list)?;
-    put_count(writer, Outcome::First, list)?;
-    put_count(writer, Outcome::Conflict, list)
+    put_count(writer, BlockOutcome::Taken, list)?;
+    put_count(writer, BlockOutcome::Lost, list)?;
+    put_count(writer, BlockOutcome::Majority, list)?;
+    put_count(writer, BlockOutcome::First, list)?;
+    put_count(writer, BlockOutcome::Conflict, list)
 }
 
 /// Prints an array of the tracks of entries.

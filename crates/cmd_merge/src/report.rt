@@ -8,8 +8,8 @@ ghost use Rattle.cmd_merge.specs.Reports.{choices_of, left_of, report_by, report
 use crate::lines::push_report;
 use crate::objects::{Summary, choice_lines, summary_json};
 use crate::readings::Readings;
-use crate::setup::Setup;
-use d64_merge::{Choice, Outcome, choices, count_of, keeps_codes, list_left, merged_tracks};
+use crate::setup::MergeSetup;
+use d64_merge::{BlockOutcome, Choice, choices, count_of, keeps_codes, list_left, merged_tracks};
 use d64_survey::Dump;
 use out_json_csv::Scratch;
 use program_arguments::DiffForm;
@@ -25,7 +25,11 @@ pub(crate) struct Plan {
 
 /// Returns what becomes of the blocks of these readings, and what is left on other tracks of G64
 /// files.
-pub(crate) fn plan_of(alloc: Global, setup: &Setup, readings: &Readings) -> Result<Plan, AllocError>
+pub(crate) fn plan_of(
+    alloc: Global,
+    setup: &MergeSetup,
+    readings: &Readings,
+) -> Result<Plan, AllocError>
     ensures list { IfOk result (λ plan. plan.list.items ≡ choices_of setup.now readings.now) }
     ensures left { IfOk result (λ plan. plan.left.items ≡ left_of setup.now readings.now) }
 {
@@ -42,9 +46,9 @@ pub(crate) fn plan_of(alloc: Global, setup: &Setup, readings: &Readings) -> Resu
 pub(crate) fn verdict_on(list: &[Choice]) -> Verdict
     ensures { result ≡ merge_verdict list.now }
 {
-    let lost = count_of(Outcome::Lost, list);
-    let first = count_of(Outcome::First, list);
-    let conflict = count_of(Outcome::Conflict, list);
+    let lost = count_of(BlockOutcome::Lost, list);
+    let first = count_of(BlockOutcome::First, list);
+    let conflict = count_of(BlockOutcome::Conflict, list);
     if lost == 0 && first == 0 && conflict == 0 {
         Verdict::Clean
     } else {
@@ -80,7 +84,7 @@ fn print_in(
 /// was.
 pub(crate) fn print_report(
     scratch: &mut Scratch,
-    setup: &Setup,
+    setup: &MergeSetup,
     readings: &Readings,
     plan: &Plan,
     digest: Option<&[u8; 32]>,

@@ -1,4 +1,4 @@
-//! `Setup`: what the arguments of `merge` ask for.
+//! `MergeSetup`: what the arguments of `merge` ask for.
 
 use d64_merge::Preference;
 use program_arguments::DiffForm;
@@ -6,7 +6,7 @@ use std::marker::Model;
 
 /// What a merge is asked for.
 #[derive(Drop)]
-pub struct Setup {
+pub struct MergeSetup {
     /// The file that is made, which must not be there.
     pub out: String,
     /// What is to be done if good copies differ.
@@ -19,7 +19,7 @@ pub struct Setup {
     pub names: Vec<String>,
 }
 
-impl Model for Setup {
+impl Model for MergeSetup {
     ghost use Rattle.std.specs.Prelude.{map, string_bytes};
     ghost use Rattle.cmd_merge.specs.Setup.{MergeSetupView};
 

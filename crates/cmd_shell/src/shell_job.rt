@@ -14,7 +14,7 @@ ghost use Rattle.program_console.specs.Console.{IsDelivered, IsFresh, SameStream
 ghost use Rattle.program_console.specs.Outside.{outside_at};
 
 use d64_image::{BLOCKS, Image, ImageFault, blocks_of};
-use d64_undo::{ReadFault, Session, resume_from};
+use d64_undo::{Session, SessionReadFault, resume_from};
 use host_storage::{Host, HostFault};
 use program_console::Console;
 use program_exit::{ALL_ACCEPTED, ProgramFault, SOME_REFUSED, fetch_file};
@@ -225,9 +225,9 @@ fn session_of_file<H: Host, L: Observer>(
     };
     match resume_from(alloc, &mut file, SESSION_BYTES) {
         Ok(session) => Ok(session),
-        Err(ReadFault::Resume(fault)) => Err(fault.into()),
-        Err(ReadFault::TooLong) => Err(ProgramFault::UnreadableSession),
-        Err(ReadFault::Device) => {
+        Err(SessionReadFault::Resume(fault)) => Err(fault.into()),
+        Err(SessionReadFault::TooLong) => Err(ProgramFault::UnreadableSession),
+        Err(SessionReadFault::Device) => {
             observer.miss(name, Err(HostFault::Device));
             host.count_failed_read();
             Err(ProgramFault::UnreadableSession)

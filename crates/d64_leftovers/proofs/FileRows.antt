@@ -8,8 +8,8 @@ use Rattle.d64_survey.specs.Dump.{DumpView}
 use Rattle.d64_survey.specs.Owners.{way_slots}
 use Rattle.d64_inventory.specs.Rows.{file_row_of, rows as file_rows}
 use Rattle.d64_leftovers.specs.Rows.{row_of_slot, wanted_rows, FilesAloneAreTheInventory}
-use Rattle.d64_leftovers.specs.declared.row.Row.{Row}
-use Rattle.d64_leftovers.specs.declared.row.Row.TheVariants.{File}
+use Rattle.d64_leftovers.specs.declared.row.ListedRow.{ListedRow}
+use Rattle.d64_leftovers.specs.declared.row.ListedRow.TheVariants.{File}
 use Rattle.d64_leftovers.specs.declared.selection.Selection.{Selection}
 
 abbrev alone : Selection
@@ -22,7 +22,7 @@ rows_of_files dump (slot ∷ slots) = by_use (is_used slot.1) (rows_of_files dum
     by_use : (used : Bool) → filter_map (row_of_slot alone dump) slots ≡ map File (map (file_row_of dump) (filter (λ (s : ℕ × List ℕ). is_used s.1) slots))
         → cons_option (cond used (Some (File (file_row_of dump slot))) None) (filter_map (row_of_slot alone dump) slots)
         ≡ map File (map (file_row_of dump) (cond used (slot ∷ filter (λ (s : ℕ × List ℕ). is_used s.1) slots) (filter (λ (s : ℕ × List ℕ). is_used s.1) slots)))
-    by_use true e = ap (λ (rest : List Row). File (file_row_of dump slot) ∷ rest) e
+    by_use true e = ap (λ (rest : List ListedRow). File (file_row_of dump slot) ∷ rest) e
     by_use false e = e
 
 pub files_alone : FilesAloneAreTheInventory

@@ -10,7 +10,7 @@ use Rattle.d64_files.specs.Directory.{numbered_slots}
 use Rattle.d64_survey.specs.Owners.{way_slots}
 use Rattle.d64_leftovers.specs.Rows.{row_of_slot, row_of_left, blocks_wanted, wanted_rows}
 use Rattle.d64_leftovers.specs.Sources.{SourceView, wanted_row_at, wanted_rows_from, orphan_at, orphans_from}
-use Rattle.d64_leftovers.specs.declared.row.Row.{Row}
+use Rattle.d64_leftovers.specs.declared.row.ListedRow.{ListedRow}
 
 -- ---- a list from a place on
 
@@ -33,11 +33,11 @@ none_left source slot past =
     (let long : length (numbered_slots (slots_of source)) ≤ slot = omega (arith, length-enumerate_from 0 (slots_of source)) in long)
 
 -- the row of a slot that is there, if it is wanted
-abbrev row_there : SourceView → ℕ → Option Row
+abbrev row_there : SourceView → ℕ → Option ListedRow
 row_there source slot = row_of_slot source.wanted source.dump (slot, get_or (slots_of source) slot [])
 
 -- the rows that are left after one slot
-abbrev later : SourceView → ℕ → List Row
+abbrev later : SourceView → ℕ → List ListedRow
 later source slot = wanted_rows_from source (slot + 1)
 
 -- those from a slot on are its own, if it is wanted, and the later ones
@@ -55,14 +55,14 @@ row_is_there source slot within =
     ap (λ (c : Option (List ℕ)). option_and_then (λ cell. row_of_slot source.wanted source.dump (slot, cell)) c) (slice_get-get_or (slots_of source) slot [] within)
 
 -- a row at a slot is the first that is left
-pub row_first : (source : SourceView) (slot : ℕ) (row : Row) → slot < length (slots_of source) → Some row ≡ wanted_row_at source slot → wanted_rows_from source slot ≡ row ∷ later source slot
+pub row_first : (source : SourceView) (slot : ℕ) (row : ListedRow) → slot < length (slots_of source) → Some row ≡ wanted_row_at source slot → wanted_rows_from source slot ≡ row ∷ later source slot
 row_first source slot row within is =
-    first_and_later source slot within ∙ ap (λ (r : Option Row). cons_option r (later source slot)) (sym (is ∙ row_is_there source slot within))
+    first_and_later source slot within ∙ ap (λ (r : Option ListedRow). cons_option r (later source slot)) (sym (is ∙ row_is_there source slot within))
 
 -- if there is none at a slot, the later ones are left
 pub row_later : (source : SourceView) (slot : ℕ) → slot < length (slots_of source) → None ≡ wanted_row_at source slot → wanted_rows_from source slot ≡ later source slot
 row_later source slot within is =
-    first_and_later source slot within ∙ ap (λ (r : Option Row). cons_option r (later source slot)) (sym (is ∙ row_is_there source slot within))
+    first_and_later source slot within ∙ ap (λ (r : Option ListedRow). cons_option r (later source slot)) (sym (is ∙ row_is_there source slot within))
 
 -- ---- blocks that are left
 
@@ -78,12 +78,12 @@ orphan_and_later source place within =
     one_more (row_of_left source.dump) (blocks_of source) place 0 within
     ∙ ap (λ (b : Option ℕ). cons_option (option_and_then (row_of_left source.dump) b) (orphans_from source (place + 1))) (sym (slice_get-get_or (blocks_of source) place 0 within))
 
-pub orphan_first : (source : SourceView) (place : ℕ) (row : Row) → place < length (blocks_of source) → Some row ≡ orphan_at source place
+pub orphan_first : (source : SourceView) (place : ℕ) (row : ListedRow) → place < length (blocks_of source) → Some row ≡ orphan_at source place
     → orphans_from source place ≡ row ∷ orphans_from source (place + 1)
-orphan_first source place row within is = orphan_and_later source place within ∙ ap (λ (r : Option Row). cons_option r (orphans_from source (place + 1))) (sym is)
+orphan_first source place row within is = orphan_and_later source place within ∙ ap (λ (r : Option ListedRow). cons_option r (orphans_from source (place + 1))) (sym is)
 
 pub orphan_later : (source : SourceView) (place : ℕ) → place < length (blocks_of source) → None ≡ orphan_at source place → orphans_from source place ≡ orphans_from source (place + 1)
-orphan_later source place within is = orphan_and_later source place within ∙ ap (λ (r : Option Row). cons_option r (orphans_from source (place + 1))) (sym is)
+orphan_later source place within is = orphan_and_later source place within ∙ ap (λ (r : Option ListedRow). cons_option r (orphans_from source (place + 1))) (sym is)
 
 -- ---- both
 

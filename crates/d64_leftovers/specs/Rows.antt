@@ -13,31 +13,31 @@ use Rattle.d64_scratched.specs.Scratched.{is_scratched}
 use Rattle.d64_inventory.specs.Rows.{file_row_of, rows as file_rows}
 use Rattle.d64_leftovers.specs.Deleted.{deleted_row}
 use Rattle.d64_leftovers.specs.Orphans.{is_head, left_blocks, orphan_row}
-use Rattle.d64_leftovers.specs.declared.row.Row.{Row}
-use Rattle.d64_leftovers.specs.declared.row.Row.TheVariants.{File, Deleted, Orphan}
+use Rattle.d64_leftovers.specs.declared.row.ListedRow.{ListedRow}
+use Rattle.d64_leftovers.specs.declared.row.ListedRow.TheVariants.{File, Deleted, Orphan}
 use Rattle.d64_leftovers.specs.declared.selection.Selection.{Selection}
 
 -- the file was deleted
-abbrev pub is_deleted : Row → Bool
+abbrev pub is_deleted : ListedRow → Bool
 is_deleted (File row) = false
 is_deleted (Deleted row) = true
 is_deleted (Orphan row) = false
 
 -- it is that of an orphan
-abbrev pub is_orphan : Row → Bool
+abbrev pub is_orphan : ListedRow → Bool
 is_orphan (File row) = false
 is_orphan (Deleted row) = false
 is_orphan (Orphan row) = true
 
 -- the row of a numbered slot of a dump: that of its file, if it is used, and that of a deleted
 -- one, if it is scratched; None if it is neither, or that isn't wanted
-abbrev pub row_of_slot : Selection → DumpView → ℕ × Bytes → Option Row
+abbrev pub row_of_slot : Selection → DumpView → ℕ × Bytes → Option ListedRow
 row_of_slot wanted dump slot =
     if is_used slot.1 then (if wanted.files then Some (File (file_row_of dump slot)) else None)
     else (if wanted.deleted && is_scratched slot.1 then Some (Deleted (deleted_row dump slot)) else None)
 
 -- the row of a block of a dump that is left: that of the orphan whose head it is, if it is one
-abbrev pub row_of_left : DumpView → ℕ → Option Row
+abbrev pub row_of_left : DumpView → ℕ → Option ListedRow
 row_of_left dump block = if is_head dump.image block then Some (Orphan (orphan_row dump block)) else None
 
 -- the blocks that are left, where orphans are wanted
@@ -46,7 +46,7 @@ blocks_wanted wanted dump = if wanted.orphans then left_blocks dump.image else [
 
 -- the rows of a dump that are wanted: those of all slots of the directory's way, in their order, and
 -- then those of orphans by their heads, rising
-unfoldable pub wanted_rows : Selection → DumpView → List Row
+unfoldable pub wanted_rows : Selection → DumpView → List ListedRow
 wanted_rows wanted dump =
     filter_map (row_of_slot wanted dump) (numbered_slots (way_slots dump.image)) ++ filter_map (row_of_left dump) (blocks_wanted wanted dump)
 

@@ -15,7 +15,7 @@ mod source;
 
 pub use deleted_row::DeletedRow;
 pub use orphan_row::{OldSlot, OrphanRow};
-pub use row::Row;
+pub use row::ListedRow;
 pub use row_laws::files_alone_are_the_inventory;
 pub use row_list::RowList;
 pub use selection::Selection;

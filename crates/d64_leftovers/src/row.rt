@@ -1,4 +1,4 @@
-//! `Row`: the row of a file that is there, of a deleted one, or of an orphan.
+//! `ListedRow`: the row of a file that is there, of a deleted one, or of an orphan.
 ghost use Rattle.std.specs.Prelude.{◌≡◌};
 ghost use Rattle.d64_leftovers.specs.Rows.{is_deleted, is_orphan};
 
@@ -8,7 +8,7 @@ use d64_inventory::FileRow;
 
 /// The row of a file, or of what is left of one.
 #[derive(Debug, Drop)]
-pub enum Row {
+pub enum ListedRow {
     /// The row of the file of a used slot.
     File(FileRow),
     /// The row of the deleted file of a scratched slot.
@@ -17,14 +17,14 @@ pub enum Row {
     Orphan(OrphanRow),
 }
 
-impl Row {
+impl ListedRow {
     /// Whether the file was deleted.
     pub fn is_deleted(&self) -> bool
         ensures { result ≡ is_deleted self.now }
     {
         match self {
-            Row::File(_) | Row::Orphan(_) => false,
-            Row::Deleted(_) => true,
+            ListedRow::File(_) | ListedRow::Orphan(_) => false,
+            ListedRow::Deleted(_) => true,
         }
     }
 
@@ -33,8 +33,8 @@ impl Row {
         ensures { result ≡ is_orphan self.now }
     {
         match self {
-            Row::File(_) | Row::Deleted(_) => false,
-            Row::Orphan(_) => true,
+            ListedRow::File(_) | ListedRow::Deleted(_) => false,
+            ListedRow::Orphan(_) => true,
         }
     }
 }

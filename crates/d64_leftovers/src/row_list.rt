@@ -4,7 +4,7 @@ ghost use Rattle.std.specs.Iterator.{YieldsFirst, item_count};
 ghost use Rattle.d64_leftovers.specs.Rows.{wanted_rows};
 ghost use Rattle.d64_leftovers.specs.Sources.{wanted_rows_from, orphans_from};
 
-use crate::row::Row;
+use crate::row::ListedRow;
 use crate::selection::Selection;
 use crate::source::Source;
 use d64_files::SlotNo;
@@ -14,14 +14,14 @@ use std::marker::Model;
 /// A row, and the place after its own.
 #[derive(Drop)]
 struct Found {
-    row: Row,
+    row: ListedRow,
     next: usize,
 }
 
 /// A row, and what is left after it: the places of the next slot and of the next block.
 #[derive(Drop)]
 struct Step {
-    row: Row,
+    row: ListedRow,
     slot: usize,
     left: usize,
 }
@@ -40,9 +40,9 @@ pub struct RowList<'a> {
 impl<'a> Model for RowList<'a> {
     ghost use Rattle.std.specs.Prelude.{◌++◌, List};
     ghost use Rattle.d64_leftovers.specs.Sources.{wanted_rows_from, orphans_from};
-    ghost use Rattle.d64_leftovers.specs.declared.row.Row.{Row};
+    ghost use Rattle.d64_leftovers.specs.declared.row.ListedRow.{ListedRow};
 
-    ghost Value = { List Row };
+    ghost Value = { List ListedRow };
 
     ghost view = { λ list. wanted_rows_from list.source list.slot ++ orphans_from list.source list.left };
 }
@@ -121,13 +121,13 @@ impl<'a> RowList<'a> {
 }
 
 impl<'a> Iterator for RowList<'a> {
-    type Item = Row;
+    type Item = ListedRow;
 
     ghost next_gives = { YieldsFirst (λ left. left) };
 
     ghost remaining = { item_count (λ left. left) };
 
-    fn next(&mut self) -> Option<Row> {
+    fn next(&mut self) -> Option<ListedRow> {
         match first_step(&mut self.source, self.slot, self.left) {
             Some(step) => {
                 self.slot = step.slot;

@@ -8,11 +8,11 @@ ghost use Rattle.d64_inventory.specs.Rows.{file_row_of};
 ghost use Rattle.d64_leftovers.specs.Deleted.{deleted_row};
 ghost use Rattle.d64_leftovers.specs.Rows.{row_of_slot, blocks_wanted};
 ghost use Rattle.d64_leftovers.specs.Sources.{wanted_row_at, orphan_at};
-ghost use Rattle.d64_leftovers.specs.declared.row.Row.TheVariants.{File, Deleted};
+ghost use Rattle.d64_leftovers.specs.declared.row.ListedRow.TheVariants.{File, Deleted};
 
 use crate::deleted_files::DeletedFiles;
 use crate::orphans::Orphans;
-use crate::row::Row;
+use crate::row::ListedRow;
 use crate::selection::Selection;
 use d64_files::{Entry, SlotNo};
 use d64_inventory::Inventory;
@@ -87,13 +87,13 @@ impl<'a> Source<'a> {
 
     /// The row of the orphan whose head is the block at a place among those, or None if there is no
     /// such block, or it is no head.
-    pub(crate) fn orphan(&mut self, place: usize) -> Option<Row>
+    pub(crate) fn orphan(&mut self, place: usize) -> Option<ListedRow>
         ensures row { result ≡ orphan_at self.old place }
         ensures same { self.new ≡ self.old }
     {
         match &self.orphans {
             Some(orphans) => match orphans.head_at(place) {
-                Some(head) => Some(Row::Orphan(orphans.row(&mut self.inventory, head))),
+                Some(head) => Some(ListedRow::Orphan(orphans.row(&mut self.inventory, head))),
                 None => None,
             },
             None => None,
@@ -108,7 +108,7 @@ impl<'a> Source<'a> {
     }
 
     /// Returns the row of the file of a used slot, or None if files aren't wanted.
-    fn file_row(&mut self, entry: &Entry) -> Option<Row>
+    fn file_row(&mut self, entry: &Entry) -> Option<ListedRow>
         requires slot { slot_cell self.old.dump.image entry.now.slot ≡ Some entry.now.bytes }
         requires used { is_used entry.now.bytes ≡ true }
         ensures row { result ≡ (if self.old.wanted.files then Some (File (file_row_of self.old.dump (entry.now.slot, entry.now.bytes))) else None) }
@@ -118,21 +118,21 @@ impl<'a> Source<'a> {
             return None;
         }
         match self.inventory.row(entry.slot()) {
-            Some(row) => Some(Row::File(row)),
+            Some(row) => Some(ListedRow::File(row)),
             None => None,
         }
     }
 
     /// Returns the row of the deleted file of a slot that isn't used, or None if deleted files
     /// aren't wanted, or the slot isn't scratched.
-    fn deleted_row(&mut self, entry: &Entry) -> Option<Row>
+    fn deleted_row(&mut self, entry: &Entry) -> Option<ListedRow>
         ensures row { result ≡ (if self.old.wanted.deleted && is_scratched entry.now.bytes then Some (Deleted (deleted_row self.old.dump (entry.now.slot, entry.now.bytes))) else None) }
         ensures same { self.new ≡ self.old }
     {
         match &self.deleted {
             Some(files) => {
                 if is_scratched(entry) {
-                    Some(Row::Deleted(files.row(&mut self.inventory, entry)))
+                    Some(ListedRow::Deleted(files.row(&mut self.inventory, entry)))
                 } else {
                     None
                 }
@@ -142,7 +142,7 @@ impl<'a> Source<'a> {
     }
 
     /// Returns the row of an entry of the dump's image, or None if it has no row that is wanted.
-    fn row_of_entry(&mut self, entry: &Entry) -> Option<Row>
+    fn row_of_entry(&mut self, entry: &Entry) -> Option<ListedRow>
         requires { slot_cell self.old.dump.image entry.now.slot ≡ Some entry.now.bytes }
         ensures row { result ≡ row_of_slot self.old.wanted self.old.dump (entry.now.slot, entry.now.bytes) }
         ensures same { self.new ≡ self.old }
@@ -156,7 +156,7 @@ impl<'a> Source<'a> {
 
     /// Returns the row of a slot, or None if the directory's way has no such slot, or the slot has
     /// no row that is wanted.
-    pub(crate) fn row(&mut self, slot: SlotNo) -> Option<Row>
+    pub(crate) fn row(&mut self, slot: SlotNo) -> Option<ListedRow>
         ensures row { result ≡ wanted_row_at self.old slot }
         ensures same { self.new ≡ self.old }
     {

@@ -17,8 +17,8 @@ use Rattle.d64_merge.specs.Merged.{has_40_tracks, merged_block_count, choices, i
 use Rattle.d64_merge.specs.Laws.{EqualDumpsMakeThatDump}
 use Rattle.d64_merge.specs.declared.choice.Choice.{Choice}
 use Rattle.d64_merge.specs.declared.outcome.Preference.{Preference}
-use Rattle.d64_merge.specs.declared.outcome.Outcome.{Outcome}
-use Rattle.d64_merge.specs.declared.outcome.Outcome.TheVariants.{Same, Lost, Conflict}
+use Rattle.d64_merge.specs.declared.outcome.BlockOutcome.{BlockOutcome}
+use Rattle.d64_merge.specs.declared.outcome.BlockOutcome.TheVariants.{Same, Lost, Conflict}
 use Rattle.d64_merge.proofs.Counts.{found}
 use Rattle.d64_merge.proofs.Agreements.{agree_by}
 use Rattle.d64_merge.proofs.Orders.{outcome_by}
@@ -111,8 +111,8 @@ module _ (preference : Preference) (n : ℕ) (dump : DumpView) (block : ℕ) (th
       ∙ ap (λ (c : Bool). outcome_by preference false true c (list_any (wins block dumps) dumps)) all in
       record {
         agrees = ap (is_outcome Conflict) is;
-        bytes = ap (λ (o : Outcome). bytes_in block (dump_at dumps (source o block dumps))) is ∙ ap (bytes_in block) (placed_equal (is_good block) n dump good);
-        code = ap (λ (o : Outcome). merged_code o block dumps) is ∙ same_code;
+        bytes = ap (λ (o : BlockOutcome). bytes_in block (dump_at dumps (source o block dumps))) is ∙ ap (bytes_in block) (placed_equal (is_good block) n dump good);
+        code = ap (λ (o : BlockOutcome). merged_code o block dumps) is ∙ same_code;
       }
 
   kept_lost : is_good block dump ≡ false → Kept preference n dump block
@@ -124,8 +124,8 @@ module _ (preference : Preference) (n : ℕ) (dump : DumpView) (block : ℕ) (th
       ∙ ap (λ (a : Bool). outcome_by preference a (are_equal block dumps) (good_count block dumps == length dumps) (list_any (wins block dumps) dumps)) none in
       record {
         agrees = ap (is_outcome Conflict) is;
-        bytes = ap (λ (o : Outcome). bytes_in block (dump_at dumps (source o block dumps))) is ∙ ap (bytes_in block) (lost_source block n dump there);
-        code = ap (λ (o : Outcome). merged_code o block dumps) is ∙ ap (code_in block) (lost_source block n dump there);
+        bytes = ap (λ (o : BlockOutcome). bytes_in block (dump_at dumps (source o block dumps))) is ∙ ap (bytes_in block) (lost_source block n dump there);
+        code = ap (λ (o : BlockOutcome). merged_code o block dumps) is ∙ ap (code_in block) (lost_source block n dump there);
       }
 
   kept : Kept preference n dump block

@@ -20,8 +20,8 @@ use Rattle.d64_merge.specs.Merged.{has_40_tracks, merged_block_count, choices, i
 use Rattle.d64_merge.specs.Laws.{IsIn, EachBlockIsADumps, ErrorsOnlyWhereAllAreLost}
 use Rattle.d64_merge.specs.declared.choice.Choice.{Choice}
 use Rattle.d64_merge.specs.declared.outcome.Preference.{Preference}
-use Rattle.d64_merge.specs.declared.outcome.Outcome.{Outcome}
-use Rattle.d64_merge.specs.declared.outcome.Outcome.TheVariants.{Same, Taken, Lost, Majority, First, Conflict}
+use Rattle.d64_merge.specs.declared.outcome.BlockOutcome.{BlockOutcome}
+use Rattle.d64_merge.specs.declared.outcome.BlockOutcome.TheVariants.{Same, Taken, Lost, Majority, First, Conflict}
 use Rattle.d64_merge.proofs.Counts.{count_none, none_counted, find_all, find_none, found, tight}
 use Rattle.d64_merge.proofs.Agreements.{both_true}
 use Rattle.d64_merge.proofs.Orders.{is_number, none_passes, passes_nowhere, outcome_by}
@@ -158,7 +158,7 @@ tells_lost preference false true false winner is = absurd (cc)
 tells_lost preference false false all winner is = absurd (apart_is Lost refl refl refl (preference.majority && winner) preference.first is)
 
 module _ (preference : Preference) (dumps : List DumpView) (block : ℕ) where
-  counts : (became : Outcome) → outcome preference block dumps ≡ became
+  counts : (became : BlockOutcome) → outcome preference block dumps ≡ became
       → outcome_by preference (good_count block dumps == 0) (are_equal block dumps) (good_count block dumps == length dumps) (list_any (wins block dumps) dumps) ≡ became
   counts became is = sym (outcome_is preference block dumps) ∙ is
 
@@ -180,7 +180,7 @@ module _ (preference : Preference) (dumps : List DumpView) (block : ℕ) where
         (placed_in block dumps (has_block block) (λ k d h is. is) (any_there block dumps some are within))
   ]
 
-  in_by : dumps ≢ [] → All IsDump dumps → block < merged_block_count dumps → (became : Outcome) → outcome preference block dumps ≡ became → is_outcome Conflict became ≡ false
+  in_by : dumps ≢ [] → All IsDump dumps → block < merged_block_count dumps → (became : BlockOutcome) → outcome preference block dumps ≡ became → is_outcome Conflict became ≡ false
       → IsIn dumps block (bytes_in block (dump_at dumps (source became block dumps)))
   unfolding source
   in_by some are within Same is h = good_placed (tells_same preference (good_count block dumps == 0) (are_equal block dumps) (good_count block dumps == length dumps) (list_any (wins block dumps) dumps) (counts Same is)).0
@@ -253,7 +253,7 @@ module _ (preference : Preference) (dumps : List DumpView) (block : ℕ) where
   abbrev none_good : Bool
   none_good = good_count block dumps == 0
 
-  lost_by : (became : Outcome) → outcome preference block dumps ≡ became → is_read_error (merged_code became block dumps) ≡ true → All (λ x. is_good block x ≡ false) dumps
+  lost_by : (became : BlockOutcome) → outcome preference block dumps ≡ became → is_read_error (merged_code became block dumps) ≡ true → All (λ x. is_good block x ≡ false) dumps
   unfolding code_source source
   lost_by Lost is h =
       none_counted (is_good block) dumps (is_number _ _ (tells_lost preference none_good (are_equal block dumps) (good_count block dumps == length dumps) (list_any (wins block dumps) dumps) (counts preference dumps block Lost is)))

@@ -15,14 +15,14 @@ use Rattle.d64_merge.specs.Merged.{has_40_tracks, merged_block_count, choices, i
 use Rattle.d64_merge.specs.Laws.{OrderDoesNotMatter}
 use Rattle.d64_merge.specs.declared.choice.Choice.{Choice}
 use Rattle.d64_merge.specs.declared.outcome.Preference.{Preference}
-use Rattle.d64_merge.specs.declared.outcome.Outcome.{Outcome}
-use Rattle.d64_merge.specs.declared.outcome.Outcome.TheVariants.{Same, Taken, Lost, Majority, First, Conflict}
+use Rattle.d64_merge.specs.declared.outcome.BlockOutcome.{BlockOutcome}
+use Rattle.d64_merge.specs.declared.outcome.BlockOutcome.TheVariants.{Same, Taken, Lost, Majority, First, Conflict}
 use Rattle.d64_merge.proofs.Counts.{count_none, none_counted}
 use Rattle.d64_merge.proofs.Orders.{is_number, any_permuted, same_outcome, outcome_by}
 use Rattle.d64_merge.proofs.OrderedBlocks.{bytes_in, good_bytes, winner_bytes, not_none}
 
 -- if good copies differ, the outcome is one of three
-pub apart_is : (other : Outcome) → (is_outcome Majority other ≡ false) → (is_outcome First other ≡ false) → (is_outcome Conflict other ≡ false)
+pub apart_is : (other : BlockOutcome) → (is_outcome Majority other ≡ false) → (is_outcome First other ≡ false) → (is_outcome Conflict other ≡ false)
     → (m f : Bool) → (if m then Majority else (if f then First else Conflict)) ≡ other → ⊥
 apart_is other a b c true f is = let wrong : true ≡ false = ap (is_outcome Majority) is ∙ a in cc
 apart_is other a b c false true is = let wrong : true ≡ false = ap (is_outcome First) is ∙ b in cc
@@ -61,7 +61,7 @@ unfolding outcome
 outcome_is preference block dumps = refl
 
 module _ (preference : Preference) (dumps others : List DumpView) (perm : IsPermutation dumps others) where
-  bytes_by : (block : ℕ) (became : Outcome) → outcome preference block dumps ≡ became → is_outcome Lost became ≡ false → is_outcome First became ≡ false
+  bytes_by : (block : ℕ) (became : BlockOutcome) → outcome preference block dumps ≡ became → is_outcome Lost became ≡ false → is_outcome First became ≡ false
       → bytes_in block (dump_at others (source became block others)) ≡ bytes_in block (dump_at dumps (source became block dumps))
   unfolding source
   bytes_by block Same is a b =
@@ -82,7 +82,7 @@ module _ (preference : Preference) (dumps others : List DumpView) (perm : IsPerm
       → taken_bytes others (choice preference others block) ≡ taken_bytes dumps (choice preference dumps block)
   unfolding choice
   taken_too block a b =
-      ap (λ (o : Outcome). bytes_in block (dump_at others (source o block others))) (same_outcome preference block dumps others perm)
+      ap (λ (o : BlockOutcome). bytes_in block (dump_at others (source o block others))) (same_outcome preference block dumps others perm)
       ∙ bytes_by block (outcome preference block dumps) refl a b
 
   same_became : (block : ℕ) → (choice preference others block).outcome ≡ (choice preference dumps block).outcome
@@ -102,16 +102,16 @@ same_map f g [] all = refl
 same_map f g (x ∷ xs) all = ap₂ (λ a b. a ∷ b) (All-head (λ x. f x ≡ g x) x xs all) (same_map f g xs (All-tail (λ x. f x ≡ g x) x xs all))
 
 -- no block has this outcome, block by block
-abbrev IsNever : Outcome → Preference → List DumpView → Type 0
+abbrev IsNever : BlockOutcome → Preference → List DumpView → Type 0
 IsNever became preference dumps = All (λ block. is_outcome became (choice preference dumps block).outcome ≡ false) (range_with_len 0 (merged_block_count dumps))
 
-pub never : (became : Outcome) (preference : Preference) (dumps : List DumpView) → outcome_count became (choices preference dumps) ≡ 0 → IsNever became preference dumps
+pub never : (became : BlockOutcome) (preference : Preference) (dumps : List DumpView) → outcome_count became (choices preference dumps) ≡ 0 → IsNever became preference dumps
 unfolding choices
 never became preference dumps none =
     unmapped (λ (c : Choice). is_outcome became c.outcome ≡ false) (choice preference dumps) (range_with_len 0 (merged_block_count dumps))
     (none_counted (λ (c : Choice). is_outcome became c.outcome) (map (choice preference dumps) (range_with_len 0 (merged_block_count dumps))) none)
 
-pub counted_never : (became : Outcome) (preference : Preference) (dumps : List DumpView) → IsNever became preference dumps → outcome_count became (choices preference dumps) ≡ 0
+pub counted_never : (became : BlockOutcome) (preference : Preference) (dumps : List DumpView) → IsNever became preference dumps → outcome_count became (choices preference dumps) ≡ 0
 unfolding choices
 counted_never became preference dumps all =
     count_none (λ (c : Choice). is_outcome became c.outcome) (map (choice preference dumps) (range_with_len 0 (merged_block_count dumps)))

@@ -13,8 +13,8 @@ use Rattle.d64_survey.specs.Dump.{DumpView}
 use Rattle.d64_merge.specs.Copies.{is_good, agree, good_count, votes, wins}
 use Rattle.d64_merge.specs.Choices.{are_equal, outcome}
 use Rattle.d64_merge.specs.declared.outcome.Preference.{Preference}
-use Rattle.d64_merge.specs.declared.outcome.Outcome.{Outcome}
-use Rattle.d64_merge.specs.declared.outcome.Outcome.TheVariants.{Same, Taken, Lost, Majority, First, Conflict}
+use Rattle.d64_merge.specs.declared.outcome.BlockOutcome.{BlockOutcome}
+use Rattle.d64_merge.specs.declared.outcome.BlockOutcome.TheVariants.{Same, Taken, Lost, Majority, First, Conflict}
 use Rattle.d64_merge.proofs.Counts.{tight, same_count, find_all, find_none, found}
 use Rattle.d64_merge.proofs.Agreements.{agreeing, agree_by}
 
@@ -119,7 +119,7 @@ same_winner block dumps others perm =
     any_same (wins block others) (wins block dumps) (same_wins block dumps others perm) others ∙ sym (any_permuted (wins block dumps) dumps others perm)
 
 -- what becomes of a block, by what is counted
-abbrev pub outcome_by : Preference → Bool → Bool → Bool → Bool → Outcome
+abbrev pub outcome_by : Preference → Bool → Bool → Bool → Bool → BlockOutcome
 outcome_by preference none equal all winner =
     if none then Lost
     else (if equal then (if all then Same else Taken)

@@ -7,8 +7,8 @@ use Rattle.d64_survey.specs.ReadErrors.{code_of}
 use Rattle.d64_merge.specs.Copies.{has_block, is_good, has_bad_checksum, good_count, votes, wins}
 use Rattle.d64_merge.specs.declared.choice.Choice.{Choice}
 use Rattle.d64_merge.specs.declared.outcome.Preference.{Preference}
-use Rattle.d64_merge.specs.declared.outcome.Outcome.{Outcome}
-use Rattle.d64_merge.specs.declared.outcome.Outcome.TheVariants.{Same, Taken, Lost, Majority, First, Conflict}
+use Rattle.d64_merge.specs.declared.outcome.BlockOutcome.{BlockOutcome}
+use Rattle.d64_merge.specs.declared.outcome.BlockOutcome.TheVariants.{Same, Taken, Lost, Majority, First, Conflict}
 
 -- the dump at a place, if there is a place
 abbrev pub dump_at : List DumpView → Option ℕ → Option DumpView
@@ -26,14 +26,14 @@ are_equal block dumps =
 
 -- what becomes of a block whose good copies differ: by majority, if that is preferred and more than
 -- half of them are equal; else from the first one, if that is preferred; else in conflict
-abbrev pub outcome_apart : Preference → ℕ → List DumpView → Outcome
+abbrev pub outcome_apart : Preference → ℕ → List DumpView → BlockOutcome
 outcome_apart preference block dumps =
     if preference.majority && list_any (wins block dumps) dumps then Majority
     else (if preference.first then First else Conflict)
 
 -- what becomes of a block: no copy is good; or the good ones are equal, in all dumps or in some; or
 -- they differ
-unfoldable pub outcome : Preference → ℕ → List DumpView → Outcome
+unfoldable pub outcome : Preference → ℕ → List DumpView → BlockOutcome
 outcome preference block dumps =
     if good_count block dumps == 0 then Lost
     else (if are_equal block dumps
@@ -42,7 +42,7 @@ outcome preference block dumps =
 
 -- the place of the dump whose bytes are taken: of the first good copy, of the first that more than
 -- half agree with, or, if no copy is good, of the first with a bad checksum, else of the first
-unfoldable pub source : Outcome → ℕ → List DumpView → Option ℕ
+unfoldable pub source : BlockOutcome → ℕ → List DumpView → Option ℕ
 source Same block dumps = first_good block dumps
 source Taken block dumps = first_good block dumps
 source First block dumps = first_good block dumps
@@ -56,7 +56,7 @@ has_codes dump = is_some dump.codes
 
 -- the place of the dump whose read code the block gets: that of the copy that is taken; if all
 -- dumps have the same copy, the first dump that has codes
-unfoldable pub code_source : Outcome → ℕ → List DumpView → Option ℕ
+unfoldable pub code_source : BlockOutcome → ℕ → List DumpView → Option ℕ
 code_source Same block dumps = position has_codes dumps
 code_source Taken block dumps = source Taken block dumps
 code_source First block dumps = source First block dumps
@@ -69,7 +69,7 @@ abbrev pub code_in : ℕ → Option DumpView → ℕ
 code_in block dump = option_map_or (λ (dump : DumpView). code_of dump.codes block) dump 0
 
 -- the read code that the block gets
-abbrev pub merged_code : Outcome → ℕ → List DumpView → ℕ
+abbrev pub merged_code : BlockOutcome → ℕ → List DumpView → ℕ
 merged_code outcome block dumps = code_in block (dump_at dumps (code_source outcome block dumps))
 
 -- what a merge makes of a block

@@ -8,7 +8,7 @@ use Rattle.d64_survey.specs.ReadErrors.{code_of}
 use Rattle.d64_merge.specs.Copies.{has_block, is_good}
 use Rattle.d64_merge.specs.Merged.{choices, outcome_count, merged}
 use Rattle.d64_merge.specs.declared.outcome.Preference.{Preference}
-use Rattle.d64_merge.specs.declared.outcome.Outcome.TheVariants.{Lost, First}
+use Rattle.d64_merge.specs.declared.outcome.BlockOutcome.TheVariants.{Lost, First}
 
 -- one of the dumps has the block, with these bytes
 abbrev pub IsIn : List DumpView → ℕ → List ℕ → Type 0

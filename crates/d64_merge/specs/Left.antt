@@ -7,7 +7,7 @@ use Rattle.d64_image.specs.Block.{block_of}
 use Rattle.d64_g64.specs.SoundNames.{names_on}
 use Rattle.d64_merge.specs.Merged.{is_outcome}
 use Rattle.d64_merge.specs.declared.choice.Choice.{Choice}
-use Rattle.d64_merge.specs.declared.outcome.Outcome.TheVariants.{Lost}
+use Rattle.d64_merge.specs.declared.outcome.BlockOutcome.TheVariants.{Lost}
 
 -- an entry of a G64 is a whole track of a disk with this many tracks: entry 0 is track 1, entry 2
 -- track 2

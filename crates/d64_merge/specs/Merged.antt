@@ -8,8 +8,8 @@ use Rattle.d64_survey.specs.Dump.{DumpView}
 use Rattle.d64_merge.specs.Choices.{choice, dump_at, has_codes}
 use Rattle.d64_merge.specs.declared.choice.Choice.{Choice}
 use Rattle.d64_merge.specs.declared.outcome.Preference.{Preference}
-use Rattle.d64_merge.specs.declared.outcome.Outcome.{Outcome}
-use Rattle.d64_merge.specs.declared.outcome.Outcome.TheVariants.{Same, Taken, Lost, Majority, First, Conflict}
+use Rattle.d64_merge.specs.declared.outcome.BlockOutcome.{BlockOutcome}
+use Rattle.d64_merge.specs.declared.outcome.BlockOutcome.TheVariants.{Same, Taken, Lost, Majority, First, Conflict}
 
 -- a dump has 40 tracks
 abbrev pub has_40_tracks : DumpView → Bool
@@ -28,7 +28,7 @@ unfoldable pub choices : Preference → List DumpView → List Choice
 choices preference dumps = map (choice preference dumps) (range_with_len 0 (merged_block_count dumps))
 
 -- two outcomes are the same
-abbrev pub is_outcome : Outcome → Outcome → Bool
+abbrev pub is_outcome : BlockOutcome → BlockOutcome → Bool
 is_outcome Same Same = true
 is_outcome Taken Taken = true
 is_outcome Lost Lost = true
@@ -38,7 +38,7 @@ is_outcome Conflict Conflict = true
 is_outcome one other = false
 
 -- how many blocks have this outcome
-abbrev pub outcome_count : Outcome → List Choice → ℕ
+abbrev pub outcome_count : BlockOutcome → List Choice → ℕ
 outcome_count outcome list = count_by (λ (choice : Choice). is_outcome outcome choice.outcome) list
 
 -- the bytes of the copy that is taken of a block; empty if no copy is taken

@@ -4,7 +4,7 @@ ghost use Rattle.d64_merge.specs.Copies.{has_block, has_bad_checksum, wins};
 ghost use Rattle.d64_merge.specs.Choices.{source, has_codes, code_source, code_in, merged_code, choice};
 
 use crate::copy::{has_bad_checksum, has_block, wins};
-use crate::outcome::{Outcome, Preference, dump_at, first_good, outcome_of};
+use crate::outcome::{BlockOutcome, Preference, dump_at, first_good, outcome_of};
 use d64_image::BlockNo;
 use d64_survey::{Dump, code_of};
 
@@ -14,7 +14,7 @@ pub struct Choice {
     /// The block.
     pub block: BlockNo,
     /// What becomes of it.
-    pub outcome: Outcome,
+    pub outcome: BlockOutcome,
     /// The place, from 0, of the dump whose bytes are taken, or None in a conflict.
     pub source: Option<usize>,
     /// The read code that it gets; 0, not known, if the copy that is taken has no code.
@@ -59,29 +59,32 @@ fn first_with_codes(dumps: &[Dump]) -> Option<usize>
 
 /// Returns the place of the dump whose copy of a block is taken, or None in a conflict.
 #[tactic(auto, unfolding(crate::specs::Choices::source))]
-fn source_of(outcome: Outcome, dumps: &[Dump], block: BlockNo) -> Option<usize>
+fn source_of(outcome: BlockOutcome, dumps: &[Dump], block: BlockNo) -> Option<usize>
     ensures { result ≡ source outcome block dumps.now }
 {
     match outcome {
-        Outcome::Same | Outcome::Taken | Outcome::First => first_good(dumps, block),
-        Outcome::Majority => first_winner(dumps, block),
-        Outcome::Lost => match first_bad_checksum(dumps, block) {
+        BlockOutcome::Same | BlockOutcome::Taken | BlockOutcome::First => first_good(dumps, block),
+        BlockOutcome::Majority => first_winner(dumps, block),
+        BlockOutcome::Lost => match first_bad_checksum(dumps, block) {
             Some(place) => Some(place),
             None => first_there(dumps, block),
         },
-        Outcome::Conflict => None,
+        BlockOutcome::Conflict => None,
     }
 }
 
 /// Returns the place of the dump whose read code a block gets.
 #[tactic(auto, unfolding(crate::specs::Choices::code_source))]
-fn code_source(outcome: Outcome, dumps: &[Dump], block: BlockNo) -> Option<usize>
+fn code_source(outcome: BlockOutcome, dumps: &[Dump], block: BlockNo) -> Option<usize>
     ensures { result ≡ code_source outcome block dumps.now }
 {
     match outcome {
-        Outcome::Same => first_with_codes(dumps),
-        Outcome::Taken | Outcome::Lost | Outcome::Majority | Outcome::First | Outcome::Conflict =>
-            source_of(outcome, dumps, block),
+        BlockOutcome::Same => first_with_codes(dumps),
+        BlockOutcome::Taken
+        | BlockOutcome::Lost
+        | BlockOutcome::Majority
+        | BlockOutcome::First
+        | BlockOutcome::Conflict => source_of(outcome, dumps, block),
     }
 }
 
@@ -96,7 +99,7 @@ fn code_in(dump: Option<&Dump>, block: BlockNo) -> u8
 }
 
 /// Returns the read code that a block gets.
-fn merged_code(outcome: Outcome, dumps: &[Dump], block: BlockNo) -> u8
+fn merged_code(outcome: BlockOutcome, dumps: &[Dump], block: BlockNo) -> u8
     ensures { result ≡ merged_code outcome block dumps.now }
 {
     code_in(dump_at(dumps, code_source(outcome, dumps, block)), block)

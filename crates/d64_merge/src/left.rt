@@ -5,7 +5,7 @@ ghost use Rattle.d64_merge.specs.Left.{is_whole_track, is_missing, holds_missing
 
 use crate::choice::Choice;
 use crate::merging::is_outcome;
-use crate::outcome::Outcome;
+use crate::outcome::BlockOutcome;
 use d64_g64::list_names_on;
 use d64_image::BlockNo;
 use std::alloc::{AllocError, Global};
@@ -27,7 +27,7 @@ fn is_missing(list: &[Choice], track: u8, sector: u8) -> bool
 {
     match BlockNo::of(track, sector) {
         Some(block) => match list.get(block.index()) {
-            Some(choice) => is_outcome(Outcome::Lost, choice.outcome),
+            Some(choice) => is_outcome(BlockOutcome::Lost, choice.outcome),
             None => true,
         },
         None => true,

@@ -13,4 +13,4 @@ pub use choice::{Choice, choose};
 pub use copy::{has_block, known_code};
 pub use left::list_left;
 pub use merging::{choices, count_of, is_outcome, keeps_codes, merged_bytes, merged_tracks};
-pub use outcome::{Outcome, Preference, dump_at};
+pub use outcome::{BlockOutcome, Preference, dump_at};

@@ -7,7 +7,7 @@ ghost use Rattle.d64_merge.specs.Choices.{has_codes};
 ghost use Rattle.d64_merge.specs.Merged.{has_40_tracks, merged_tracks, merged_block_count, choices, is_outcome, outcome_count, taken_bytes, merged_image, merged_codes, keeps_codes, dump_by, dump_of_choices};
 
 use crate::choice::{Choice, choose, has_codes};
-use crate::outcome::{Outcome, Preference, dump_at};
+use crate::outcome::{BlockOutcome, Preference, dump_at};
 use d64_image::{BLOCKS, BlockNo, Image};
 use d64_survey::Dump;
 use std::alloc::{AllocError, Global};
@@ -67,14 +67,14 @@ pub fn choices(
 }
 
 /// Whether two outcomes are the same.
-pub fn is_outcome(one: Outcome, other: Outcome) -> bool
+pub fn is_outcome(one: BlockOutcome, other: BlockOutcome) -> bool
     ensures { result ≡ is_outcome one other }
 {
     one == other
 }
 
 /// Returns how many blocks have this outcome.
-pub fn count_of(outcome: Outcome, list: &[Choice]) -> usize
+pub fn count_of(outcome: BlockOutcome, list: &[Choice]) -> usize
     ensures count { result ≡ outcome_count outcome list.now }
     ensures few { result ≤ length list.now }
 {
@@ -166,7 +166,7 @@ pub fn merged_bytes(
 ) -> Result<Option<Vec<u8>>, AllocError>
     ensures { IfOk result (λ bytes. option_map (λ bytes. bytes.items) bytes ≡ option_map dump_bytes (dump_of_choices with_codes dumps.now list.now)) }
 {
-    if count_of(Outcome::Conflict, list) != 0 {
+    if count_of(BlockOutcome::Conflict, list) != 0 {
         return Ok(None);
     }
     let mut bytes = Vec::new(alloc);

@@ -19,7 +19,7 @@ pub struct Preference {
 
 /// What becomes of a block.
 #[derive(Clone, Copy, Debug, PartialEq, Eq)]
-pub enum Outcome {
+pub enum BlockOutcome {
     /// Each dump has a good copy, and all are equal.
     Same,
     /// Some dumps have a good copy, and these are equal.
@@ -69,31 +69,31 @@ fn has_majority(dumps: &[Dump], block: BlockNo) -> bool
 }
 
 /// Returns what becomes of a block whose good copies differ.
-fn outcome_apart(preference: Preference, dumps: &[Dump], block: BlockNo) -> Outcome
+fn outcome_apart(preference: Preference, dumps: &[Dump], block: BlockNo) -> BlockOutcome
     ensures { result ≡ outcome_apart preference block dumps.now }
 {
     if preference.majority && has_majority(dumps, block) {
-        Outcome::Majority
+        BlockOutcome::Majority
     } else if preference.first {
-        Outcome::First
+        BlockOutcome::First
     } else {
-        Outcome::Conflict
+        BlockOutcome::Conflict
     }
 }
 
 /// Returns what becomes of a block.
 #[tactic(auto, unfolding(crate::specs::Choices::outcome))]
-pub(crate) fn outcome_of(preference: Preference, dumps: &[Dump], block: BlockNo) -> Outcome
+pub(crate) fn outcome_of(preference: Preference, dumps: &[Dump], block: BlockNo) -> BlockOutcome
     ensures { result ≡ outcome preference block dumps.now }
 {
     let good = good_count(dumps, block);
     if good == 0 {
-        Outcome::Lost
+        BlockOutcome::Lost
     } else if !are_equal(dumps, block) {
         outcome_apart(preference, dumps, block)
     } else if good == dumps.len() {
-        Outcome::Same
+        BlockOutcome::Same
     } else {
-        Outcome::Taken
+        BlockOutcome::Taken
     }
 }

@@ -18,7 +18,7 @@ const PIECE_BYTES: usize = 16_384;
 
 /// Why a reader gives no session.
 #[derive(Clone, Copy, Debug, PartialEq, Eq, Error)]
-pub enum ReadFault {
+pub enum SessionReadFault {
     /// A read failed.
     #[error("a read failed")]
     Device,
@@ -36,7 +36,7 @@ fn read_piece<R: Read>(
     reader: &mut R,
     buffer: &mut [u8; PIECE_BYTES],
     left: &mut u32,
-) -> Result<usize, ReadFault>
+) -> Result<usize, SessionReadFault>
     ensures within { IfOk result (λ count. count ≤ length buffer.new) }
     ensures piece { IfOk result (λ count. Consumes (R.remaining reader.old) (R.remaining reader.new) (take count buffer.new)) }
     ensures end { IfOk result (λ count. count ≡ 0 → IsAtEnd (R.remaining reader.new)) }
@@ -47,12 +47,12 @@ fn read_piece<R: Read>(
     let outcome = reader.read(buffer);
     known_bytes(buffer);
     match outcome {
-        Ok(count) if count > *left as usize => Err(ReadFault::TooLong),
+        Ok(count) if count > *left as usize => Err(SessionReadFault::TooLong),
         Ok(count) => {
             *left -= count as u32;
             Ok(count)
         }
-        Err(_) => Err(ReadFault::Device),
+        Err(_) => Err(SessionReadFault::Device),
     }
 }
 
@@ -61,7 +61,7 @@ fn read_past<R: Read>(
     reader: &mut R,
     buffer: &mut [u8; PIECE_BYTES],
     limit: u32,
-) -> Result<(), ReadFault>
+) -> Result<(), SessionReadFault>
     ensures end { OnOk result ((more : Bytes)
         × Consumes (R.remaining reader.old) (R.remaining reader.new) more
         × IsAtEnd (R.remaining reader.new)
@@ -80,7 +80,11 @@ fn read_past<R: Read>(
 
 /// Reads all that is left, up to a number of bytes, into a session file that has none yet. The
 /// fault of a read that fails, or of a byte too many, comes before any fault of the bytes.
-fn read_all<R: Read>(file: &mut Resuming, reader: &mut R, limit: u32) -> Result<(), ReadFault>
+fn read_all<R: Read>(
+    file: &mut Resuming,
+    reader: &mut R,
+    limit: u32,
+) -> Result<(), SessionReadFault>
     requires { file.old ≡ [] }
     ensures read { OnOk result (Consumes (R.remaining reader.old) (R.remaining reader.new) file.new
         × IsAtEnd (R.remaining reader.new)
@@ -97,7 +101,7 @@ fn read_all<R: Read>(file: &mut Resuming, reader: &mut R, limit: u32) -> Result<
         }
         if let Err(fault) = file.push(&buffer[..count]) {
             read_past(reader, &mut buffer, left)?;
-            return Err(ReadFault::Resume(fault));
+            return Err(SessionReadFault::Resume(fault));
         }
     }
     unreachable!()
@@ -106,11 +110,15 @@ fn read_all<R: Read>(file: &mut Resuming, reader: &mut R, limit: u32) -> Result<
 /// Resumes the session of the file that a reader gives, of at most `limit` bytes. The file is read
 /// to its end, so that the fault of a read that fails, or of a byte too many, comes before any
 /// fault of the bytes. It allocates what the session holds.
-pub fn resume_from<R: Read>(alloc: Global, reader: &mut R, limit: u32) -> Result<Session, ReadFault>
+pub fn resume_from<R: Read>(
+    alloc: Global,
+    reader: &mut R,
+    limit: u32,
+) -> Result<Session, SessionReadFault>
     ensures session { IfOk result (λ session. IsReadOf (R.remaining reader.old) limit session) }
     ensures fault { IfErr result (λ fault. IsReadFault (R.remaining reader.old) limit fault) }
 {
     let mut file = Resuming::new(alloc);
     read_all(&mut file, reader, limit)?;
-    file.finish().map_err(ReadFault::Resume)
+    file.finish().map_err(SessionReadFault::Resume)
 }

@@ -16,7 +16,7 @@ mod resume_fault;
 mod resuming;
 mod session;
 
-pub use from_reader::{ReadFault, resume_from};
+pub use from_reader::{SessionReadFault, resume_from};
 pub use request::{Answer, Request, run_all};
 pub use resume_fault::ResumeFault;
 pub use resuming::{Resuming, resume};

@@ -6,7 +6,7 @@ ghost use Rattle.program_surveys.specs.Merges.{AnswersMerge, CameSoFar, Merges, 
 
 use crate::difference_job::read_contents;
 use crate::whole_task::WholeTask;
-use cmd_merge::{Readings, Setup, finish, say_present};
+use cmd_merge::{MergeSetup, Readings, finish, say_present};
 use host_storage::Host;
 use program_batch::{Batch, ReportBuffer, Verdict};
 use program_console::{Outputs, StreamFault};
@@ -17,12 +17,12 @@ use std::io::Write;
 #[derive(Drop)]
 pub struct MergeJob<'n> {
     alloc: Global,
-    setup: &'n Setup,
+    setup: &'n MergeSetup,
 }
 
 impl<'n> MergeJob<'n> {
     /// Returns a merge with this setup.
-    pub fn new(alloc: Global, setup: &'n Setup) -> MergeJob<'n>
+    pub fn new(alloc: Global, setup: &'n MergeSetup) -> MergeJob<'n>
         ensures { result.setup.now ≡ setup.now }
     {
         MergeJob { alloc, setup }

@@ -9,8 +9,8 @@ use Rattle.script_hints.specs.Said.{Said}
 use Rattle.script_hints.specs.Command.{command_of, most_words, usage}
 use Rattle.script_hints.specs.Hint.{hint_for, hint_text}
 use Rattle.script_hints.specs.Faults.{basic_fault, condition_text, list_fault}
-use Rattle.script_hints.specs.declared.command.Command.{Command}
-use Rattle.script_hints.specs.declared.command.Command.TheVariants.{Block, BlockRead, BlockWrite, Crunch, Delete, Format, Keep, Name, Petcat, Read, Rename, Save, ShowText, Undelete, Write}
+use Rattle.script_hints.specs.declared.command.LineCommand.{LineCommand}
+use Rattle.script_hints.specs.declared.command.LineCommand.TheVariants.{Block, BlockRead, BlockWrite, Crunch, Delete, Format, Keep, Name, Petcat, Read, Rename, Save, ShowText, Undelete, Write}
 use Rattle.script_hints.specs.declared.advice.Advice.{Advice}
 use Rattle.script_hints.specs.declared.advice.Piece.{Piece as CodePiece}
 use Rattle.script_hints.specs.declared.advice.Piece.TheVariants as code
@@ -62,19 +62,19 @@ abbrev pub second_or_first : Said → Piece
 second_or_first said = if length said.second == 0 then First else Second
 
 -- the argument of a line that is the name of a file on the disk
-abbrev pub file_piece : Said → Command → Piece
+abbrev pub file_piece : Said → LineCommand → Piece
 file_piece said Rename = Second
 file_piece said Crunch = second_or_first said
 file_piece said Write = second_or_first said
 file_piece said command = First
 
 -- a line whose file isn't there
-abbrev pub missing_file : Command → List Piece
+abbrev pub missing_file : LineCommand → List Piece
 missing_file Undelete = one_piece (codes "the disk has no deleted file \"") First (codes "\"")
 missing_file command = one_piece (codes "the disk has no file \"") First (codes "\"")
 
 -- the word of a line that gives the name of a file of the host
-abbrev pub host_piece : Said → Command → Piece
+abbrev pub host_piece : Said → LineCommand → Piece
 host_piece said Read = second_or_first said
 host_piece said command = First
 
@@ -87,7 +87,7 @@ abbrev pub not_number : Bytes → Piece → Piece → Piece
 not_number track first second = option_map_or (λ _. second) (number_of track) first
 
 -- a line with the right number of arguments, one of which its command does not take
-abbrev pub wrong_line : Said → Command → List Piece
+abbrev pub wrong_line : Said → LineCommand → List Piece
 wrong_line said Block = one_piece (codes "\"") (not_number said.first First Second) (codes "\" is not a number from 0 to 255: block T S")
 wrong_line said BlockRead = one_piece (codes "\"") (not_number said.second Second Third) (codes "\" is not a number from 0 to 255")
 wrong_line said BlockWrite = one_piece (codes "\"") (not_number said.second Second Third) (codes "\" is not a number from 0 to 255")
@@ -97,7 +97,7 @@ wrong_line said Undelete = one_piece (codes "\"") First (codes "\" does not end 
 wrong_line said command = one_piece (codes "type the line like this: ") (Text (usage command)) []
 
 -- a line whose arguments are not what its command takes
-abbrev pub wrong_words : Said → Command → List Piece
+abbrev pub wrong_words : Said → LineCommand → List Piece
 wrong_words said command =
     if said.count == 0 then plain_pieces (codes "quotes may only enclose a whole argument, and only printable ASCII is allowed")
     else if nat_lt (most_words command) (said.count - 1)
@@ -105,7 +105,7 @@ wrong_words said command =
     else wrong_line said command
 
 -- a line in which an argument cannot be a name
-abbrev pub wrong_name : Said → Command → List Piece
+abbrev pub wrong_name : Said → LineCommand → List Piece
 wrong_name said BlockRead = one_piece (codes "\"") First (codes "\" is not a valid name of a host file, which has 1 to 255 characters")
 wrong_name said BlockWrite = one_piece (codes "\"") First (codes "\" is not a valid name of a host file, which has 1 to 255 characters")
 wrong_name said Keep = one_piece (codes "\"") First (codes "\" is not a valid name of a host file, which has 1 to 255 characters")
@@ -121,17 +121,17 @@ wrong_name said Undelete = one_piece (codes "\"") First (codes "\" does not give
 wrong_name said command = two_pieces (codes "\"") (file_piece said command) (codes "\" does not give a valid name on a disk, which has 1 to 16 characters without * ? = : , and quotes, or the host cannot have a file \"") First (codes "\"")
 
 -- a line in which an argument is missing
-abbrev pub missing_word : Said → Command → List Piece
+abbrev pub missing_word : Said → LineCommand → List Piece
 missing_word said Save = plain_pieces (codes "the session began without an image file, so save takes a name: save HOST")
 missing_word said command = one_piece (codes "an argument is missing: ") (Text (usage command)) []
 
 -- a line that names a block that the disk doesn't have
-abbrev pub wrong_block : Said → Command → List Piece
+abbrev pub wrong_block : Said → LineCommand → List Piece
 wrong_block said Block = two_pieces (codes "the disk has no track ") First (codes " with a sector ") Second (codes ": sectors are numbered from 0, and there are 21 on tracks 1 to 17, 19 on 18 to 24, 18 on 25 to 30, then 17")
 wrong_block said command = two_pieces (codes "the disk has no track ") Second (codes " with a sector ") Third (codes ": sectors are numbered from 0, and there are 21 on tracks 1 to 17, 19 on 18 to 24, 18 on 25 to 30, then 17")
 
 -- a line whose host file has the fault with this number
-abbrev pub wrong_host_file : Said → Command → ℕ → List Piece
+abbrev pub wrong_host_file : Said → LineCommand → ℕ → List Piece
 wrong_host_file said command fault =
     if said.count == 1 then plain_pieces (codes "the image file cannot be written")
     else if fault == 1 then one_piece (codes "the host has no file \"") (host_piece said command) (codes "\"")
@@ -139,7 +139,7 @@ wrong_host_file said command fault =
     else one_piece (codes "the file \"") (host_piece said command) (codes "\" cannot be read or written")
 
 -- the advice about a line of a command that was refused with a status
-abbrev pub advice_by : Said → Command → Status → List Piece
+abbrev pub advice_by : Said → LineCommand → Status → List Piece
 advice_by said command SyntaxError = wrong_words said command
 advice_by said command UnknownCommand = two_pieces (codes "there is no command \"") Word (codes "\"") (Text (hint_text (hint_for said.word))) []
 advice_by said command LongLine = plain_pieces (codes "a line has at most 1024 characters")

@@ -3,11 +3,11 @@ use Rattle.std.specs.Prelude.{ℕ, List, [], ◌∷◌, find, codes}
 use Rattle.std.specs.Option.{option_map_or}
 use Rattle.std.specs.Str.{bytes_eq}
 use Rattle.d64_image.specs.Disk.{Bytes}
-use Rattle.script_hints.specs.declared.command.Command.{Command}
-use Rattle.script_hints.specs.declared.command.Command.TheVariants.{Block, BlockRead, BlockWrite, Crunch, Delete, Format, ListHistory, Keep, ListDirectory, Name, Petcat, Quit, Read, Redo, Rename, Save, ShowText, Undelete, Undo, Validate, Write, Unknown}
+use Rattle.script_hints.specs.declared.command.LineCommand.{LineCommand}
+use Rattle.script_hints.specs.declared.command.LineCommand.TheVariants.{Block, BlockRead, BlockWrite, Crunch, Delete, Format, ListHistory, Keep, ListDirectory, Name, Petcat, Quit, Read, Redo, Rename, Save, ShowText, Undelete, Undo, Validate, Write, Unknown}
 
 -- the names of the commands
-abbrev pub command_words : List (Bytes × Command)
+abbrev pub command_words : List (Bytes × LineCommand)
 command_words =
     (codes "block", Block)
     ∷ (codes "bread", BlockRead)
@@ -33,11 +33,11 @@ command_words =
     ∷ []
 
 -- the command with a name
-abbrev pub command_of : Bytes → Command
+abbrev pub command_of : Bytes → LineCommand
 command_of word = option_map_or (λ row. row.1) (find (λ row. bytes_eq word row.0) command_words) Unknown
 
 -- the most arguments that a command takes
-abbrev pub most_words : Command → ℕ
+abbrev pub most_words : LineCommand → ℕ
 most_words Block = 2
 most_words BlockRead = 3
 most_words BlockWrite = 3
@@ -62,7 +62,7 @@ most_words Write = 2
 most_words Unknown = 0
 
 -- how the line of a command is typed
-abbrev pub usage : Command → Bytes
+abbrev pub usage : LineCommand → Bytes
 usage Block = codes "block T S"
 usage BlockRead = codes "bread HOST T S"
 usage BlockWrite = codes "bwrite HOST T S"

@@ -6,8 +6,8 @@ use Rattle.d64_image.specs.Disk.{Bytes, Disk}
 use Rattle.d64_image.specs.Image.{bytes_of}
 use Rattle.script_hints.specs.Said.{Said}
 use Rattle.script_hints.specs.Command.{command_of}
-use Rattle.script_hints.specs.declared.command.Command.{Command}
-use Rattle.script_hints.specs.declared.command.Command.TheVariants.{BlockRead, Keep, Read, Save}
+use Rattle.script_hints.specs.declared.command.LineCommand.{LineCommand}
+use Rattle.script_hints.specs.declared.command.LineCommand.TheVariants.{BlockRead, Keep, Read, Save}
 use Rattle.script_hints.specs.declared.kept.Kept.{Kept}
 
 -- the effect of an accepted line on the files that may have the image: it stores the image in one,
@@ -40,7 +40,7 @@ is_unsaved (Some kept) image = not (bytes_eq kept.image (sha256 (bytes_of image)
 
 -- the effect of an accepted line of a command, by the names under which `save` and `read` store by
 -- default
-abbrev pub effect_by : Bytes → Bytes → Said → Command → Effect
+abbrev pub effect_by : Bytes → Bytes → Said → LineCommand → Effect
 effect_by home found said Save = Holds (if length said.first == 0 then home else said.first)
 effect_by home found said Keep = Holds said.first
 effect_by home found said Read = Replaces (if length said.second == 0 then found else said.second)

@@ -2,7 +2,7 @@
 ghost use Rattle.std.specs.Prelude.{◌≡◌};
 ghost use Rattle.script_hints.specs.Advice.{advice, file_piece, host_piece, missing_file, missing_word, not_number, one_piece, piece_of, pieces, plain_pieces, said_piece, surplus_piece, two_pieces, wrong_block, wrong_host_file, wrong_line, wrong_name, wrong_words};
 
-use crate::command::Command;
+use crate::command::LineCommand;
 use crate::faults::{basic_fault, condition_text, list_fault};
 use crate::hint::Hint;
 use crate::said::Said;
@@ -82,7 +82,7 @@ impl Advice {
     pub(crate) fn of(said: &Said<'_>, status: &Status) -> Advice
         ensures { pieces result ≡ advice said.now status.now }
     {
-        let command = Command::of(said.word);
+        let command = LineCommand::of(said.word);
         match *status {
             Status::SyntaxError => wrong_words(said, command),
             Status::UnknownCommand => Advice::two(
@@ -154,22 +154,26 @@ impl Advice {
 }
 
 /// A line whose file isn't there.
-fn missing_file(command: Command) -> Advice
+fn missing_file(command: LineCommand) -> Advice
     ensures { pieces result ≡ missing_file command }
 {
     match command {
-        Command::Undelete => Advice::one(b"the disk has no deleted file \"", Piece::First, b"\""),
+        LineCommand::Undelete => Advice::one(
+            b"the disk has no deleted file \"",
+            Piece::First,
+            b"\"",
+        ),
         _ => Advice::one(b"the disk has no file \"", Piece::First, b"\""),
     }
 }
 
 /// The argument of a line that is the name of a file on the disk.
-fn file_piece(said: &Said<'_>, command: Command) -> Piece
+fn file_piece(said: &Said<'_>, command: LineCommand) -> Piece
     ensures { piece_of result ≡ file_piece said.now command }
 {
     match command {
-        Command::Rename => Piece::Second,
-        Command::Crunch | Command::Write => {
+        LineCommand::Rename => Piece::Second,
+        LineCommand::Crunch | LineCommand::Write => {
             if said.second.is_empty() {
                 Piece::First
             } else {
@@ -181,11 +185,11 @@ fn file_piece(said: &Said<'_>, command: Command) -> Piece
 }
 
 /// The argument of a line that is the name of a file of the host.
-fn host_piece(said: &Said<'_>, command: Command) -> Piece
+fn host_piece(said: &Said<'_>, command: LineCommand) -> Piece
     ensures { piece_of result ≡ host_piece said.now command }
 {
     match command {
-        Command::Read => {
+        LineCommand::Read => {
             if said.second.is_empty() {
                 Piece::First
             } else {
@@ -219,7 +223,7 @@ fn not_number(track: &[u8], first: Piece, second: Piece) -> Piece
 }
 
 /// A line whose arguments are not what its command takes.
-fn wrong_words(said: &Said<'_>, command: Command) -> Advice
+fn wrong_words(said: &Said<'_>, command: LineCommand) -> Advice
     ensures { pieces result ≡ wrong_words said.now command }
 {
     let most = command.most_words();
@@ -241,7 +245,7 @@ fn wrong_words(said: &Said<'_>, command: Command) -> Advice
 }
 
 /// A line whose host file has this fault.
-fn wrong_host_file(said: &Said<'_>, command: Command, fault: u8) -> Advice
+fn wrong_host_file(said: &Said<'_>, command: LineCommand, fault: u8) -> Advice
     ensures { pieces result ≡ wrong_host_file said.now command fault }
 {
     if said.count == 1 {
@@ -256,31 +260,31 @@ fn wrong_host_file(said: &Said<'_>, command: Command, fault: u8) -> Advice
 }
 
 /// A line with the right number of arguments, one of which its command does not take.
-fn wrong_line(said: &Said<'_>, command: Command) -> Advice
+fn wrong_line(said: &Said<'_>, command: LineCommand) -> Advice
     ensures { pieces result ≡ wrong_line said.now command }
 {
     match command {
-        Command::Block => Advice::one(
+        LineCommand::Block => Advice::one(
             b"\"",
             not_number(said.first, Piece::First, Piece::Second),
             b"\" is not a number from 0 to 255: block T S",
         ),
-        Command::BlockRead | Command::BlockWrite => Advice::one(
+        LineCommand::BlockRead | LineCommand::BlockWrite => Advice::one(
             b"\"",
             not_number(said.second, Piece::Second, Piece::Third),
             b"\" is not a number from 0 to 255",
         ),
-        Command::Format => Advice::one(
+        LineCommand::Format => Advice::one(
             b"\"",
             Piece::First,
             b"\" has no comma between name and id: format NAME,ID",
         ),
-        Command::Write => Advice::one(
+        LineCommand::Write => Advice::one(
             b"\"",
             Piece::Second,
             b"\" does not end with a file type (p, s or u): write HOST NAME,T",
         ),
-        Command::Undelete => Advice::one(
+        LineCommand::Undelete => Advice::one(
             b"\"",
             Piece::First,
             b"\" does not end with a file type (p, s or u): undelete NAME,T",
@@ -294,50 +298,51 @@ fn wrong_line(said: &Said<'_>, command: Command) -> Advice
 }
 
 /// A line in which an argument cannot be a name.
-fn wrong_name(said: &Said<'_>, command: Command) -> Advice
+fn wrong_name(said: &Said<'_>, command: LineCommand) -> Advice
     ensures { pieces result ≡ wrong_name said.now command }
 {
     match command {
-        Command::BlockRead | Command::BlockWrite | Command::Keep | Command::Save => Advice::one(
-            b"\"",
-            Piece::First,
-            b"\" is not a valid name of a host file, which has 1 to 255 characters",
-        ),
-        Command::Format => Advice::one(
+        LineCommand::BlockRead | LineCommand::BlockWrite | LineCommand::Keep | LineCommand::Save =>
+            Advice::one(
+                b"\"",
+                Piece::First,
+                b"\" is not a valid name of a host file, which has 1 to 255 characters",
+            ),
+        LineCommand::Format => Advice::one(
             b"\"",
             Piece::First,
             b"\" is not a valid name of 1 to 16 characters and an id of 2, without * ? = : and quotes",
         ),
-        Command::Name => Advice::one(
+        LineCommand::Name => Advice::one(
             b"\"",
             Piece::First,
             b"\" is not a valid name of 1 to 16 characters, alone or with an id of 2 after a comma, without * ? = : and quotes",
         ),
-        Command::Petcat | Command::ShowText => Advice::one(
+        LineCommand::Petcat | LineCommand::ShowText => Advice::one(
             b"\"",
             Piece::First,
             b"\" is not a valid name, which has 1 to 16 characters without = : , and quotes",
         ),
-        Command::Delete => Advice::one(
+        LineCommand::Delete => Advice::one(
             b"one of the names from \"",
             Piece::First,
             b"\" on is not valid: a name has 1 to 16 characters without = : , and quotes",
         ),
-        Command::Read => Advice::two(
+        LineCommand::Read => Advice::two(
             b"\"",
             Piece::First,
             b"\" is not a valid name on a disk, which has 1 to 16 characters without = : , and quotes, or the host cannot have a file \"",
             host_piece(said, command),
             b"\": read NAME HOST",
         ),
-        Command::Rename => Advice::two(
+        LineCommand::Rename => Advice::two(
             b"\"",
             Piece::First,
             b"\" or \"",
             Piece::Second,
             b"\" is not a valid name on a disk, which has 1 to 16 characters without * ? = : , and quotes",
         ),
-        Command::Undelete => Advice::one(
+        LineCommand::Undelete => Advice::one(
             b"\"",
             Piece::First,
             b"\" does not give a valid name on a disk, which has 1 to 16 characters without * ? = : , and quotes",
@@ -353,11 +358,11 @@ fn wrong_name(said: &Said<'_>, command: Command) -> Advice
 }
 
 /// A line in which an argument is missing.
-fn missing_word(said: &Said<'_>, command: Command) -> Advice
+fn missing_word(said: &Said<'_>, command: LineCommand) -> Advice
     ensures { pieces result ≡ missing_word said.now command }
 {
     match command {
-        Command::Save => Advice::plain(
+        LineCommand::Save => Advice::plain(
             b"the session began without an image file, so save takes a name: save HOST",
         ),
         _ => Advice::one(
@@ -369,11 +374,11 @@ fn missing_word(said: &Said<'_>, command: Command) -> Advice
 }
 
 /// A line that names a block that the disk doesn't have.
-fn wrong_block(said: &Said<'_>, command: Command) -> Advice
+fn wrong_block(said: &Said<'_>, command: LineCommand) -> Advice
     ensures { pieces result ≡ wrong_block said.now command }
 {
     match command {
-        Command::Block => Advice::two(
+        LineCommand::Block => Advice::two(
             b"the disk has no track ",
             Piece::First,
             b" with a sector ",

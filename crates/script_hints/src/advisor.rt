@@ -19,7 +19,7 @@ ghost use Rattle.script_hints.specs.Said.{said_by};
 ghost use Rattle.script_hints.specs.TextCause.{IsCauseLine, MaySay};
 
 use crate::advice::Advice;
-use crate::command::Command;
+use crate::command::LineCommand;
 use crate::found::{default_name, file_count};
 use crate::help::ROWS;
 use crate::hint::Hint;
@@ -245,10 +245,10 @@ impl<'w, W: Write, H: Host> Advisor<'w, W, H> {
         let before = self.done;
         self.done = session.done();
         let mut past = mem::replace(&mut self.past, Past::new(self.alloc));
-        match Command::of(Said::of(line).word) {
-            Command::Undo => self.name_change(b"  taken back: ", past.line_of(self.done)),
-            Command::Redo => self.name_change(b"  done again: ", past.line_of(before)),
-            Command::Quit => self.is_left = true,
+        match LineCommand::of(Said::of(line).word) {
+            LineCommand::Undo => self.name_change(b"  taken back: ", past.line_of(self.done)),
+            LineCommand::Redo => self.name_change(b"  done again: ", past.line_of(before)),
+            LineCommand::Quit => self.is_left = true,
             _ if self.done > before => past.record(before, line.text().unwrap_or(b"")),
             _ => {}
         }

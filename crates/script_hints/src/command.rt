@@ -4,7 +4,7 @@ ghost use Rattle.script_hints.specs.Command.{command_of, most_words, usage};
 
 /// The command of a line.
 #[derive(Clone, Copy)]
-pub(crate) enum Command {
+pub(crate) enum LineCommand {
     Block,
     BlockRead,
     BlockWrite,
@@ -30,34 +30,34 @@ pub(crate) enum Command {
     Unknown,
 }
 
-impl Command {
+impl LineCommand {
     /// The command with this name.
-    pub(crate) fn of(word: &str) -> Command
+    pub(crate) fn of(word: &str) -> LineCommand
         ensures { result ≡ command_of word.now }
     {
         match word {
-            "block" => Command::Block,
-            "bread" => Command::BlockRead,
-            "bwrite" => Command::BlockWrite,
-            "crunch" => Command::Crunch,
-            "delete" => Command::Delete,
-            "format" => Command::Format,
-            "history" => Command::ListHistory,
-            "keep" => Command::Keep,
-            "list" => Command::ListDirectory,
-            "name" => Command::Name,
-            "petcat" => Command::Petcat,
-            "quit" => Command::Quit,
-            "read" => Command::Read,
-            "redo" => Command::Redo,
-            "rename" => Command::Rename,
-            "save" => Command::Save,
-            "type" => Command::ShowText,
-            "undelete" => Command::Undelete,
-            "undo" => Command::Undo,
-            "validate" => Command::Validate,
-            "write" => Command::Write,
-            _ => Command::Unknown,
+            "block" => LineCommand::Block,
+            "bread" => LineCommand::BlockRead,
+            "bwrite" => LineCommand::BlockWrite,
+            "crunch" => LineCommand::Crunch,
+            "delete" => LineCommand::Delete,
+            "format" => LineCommand::Format,
+            "history" => LineCommand::ListHistory,
+            "keep" => LineCommand::Keep,
+            "list" => LineCommand::ListDirectory,
+            "name" => LineCommand::Name,
+            "petcat" => LineCommand::Petcat,
+            "quit" => LineCommand::Quit,
+            "read" => LineCommand::Read,
+            "redo" => LineCommand::Redo,
+            "rename" => LineCommand::Rename,
+            "save" => LineCommand::Save,
+            "type" => LineCommand::ShowText,
+            "undelete" => LineCommand::Undelete,
+            "undo" => LineCommand::Undo,
+            "validate" => LineCommand::Validate,
+            "write" => LineCommand::Write,
+            _ => LineCommand::Unknown,
         }
     }
 
@@ -66,28 +66,28 @@ impl Command {
         ensures { result ≡ most_words self }
     {
         match self {
-            Command::Block => 2,
-            Command::BlockRead => 3,
-            Command::BlockWrite => 3,
-            Command::Crunch => 2,
-            Command::Delete => 511,
-            Command::Format => 1,
-            Command::ListHistory => 0,
-            Command::Keep => 1,
-            Command::ListDirectory => 0,
-            Command::Name => 1,
-            Command::Petcat => 1,
-            Command::Quit => 0,
-            Command::Read => 2,
-            Command::Redo => 0,
-            Command::Rename => 2,
-            Command::Save => 1,
-            Command::ShowText => 1,
-            Command::Undelete => 1,
-            Command::Undo => 0,
-            Command::Validate => 0,
-            Command::Write => 2,
-            Command::Unknown => 0,
+            LineCommand::Block => 2,
+            LineCommand::BlockRead => 3,
+            LineCommand::BlockWrite => 3,
+            LineCommand::Crunch => 2,
+            LineCommand::Delete => 511,
+            LineCommand::Format => 1,
+            LineCommand::ListHistory => 0,
+            LineCommand::Keep => 1,
+            LineCommand::ListDirectory => 0,
+            LineCommand::Name => 1,
+            LineCommand::Petcat => 1,
+            LineCommand::Quit => 0,
+            LineCommand::Read => 2,
+            LineCommand::Redo => 0,
+            LineCommand::Rename => 2,
+            LineCommand::Save => 1,
+            LineCommand::ShowText => 1,
+            LineCommand::Undelete => 1,
+            LineCommand::Undo => 0,
+            LineCommand::Validate => 0,
+            LineCommand::Write => 2,
+            LineCommand::Unknown => 0,
         }
     }
 
@@ -96,28 +96,28 @@ impl Command {
         ensures { result.now ≡ usage self }
     {
         match self {
-            Command::Block => b"block T S",
-            Command::BlockRead => b"bread HOST T S",
-            Command::BlockWrite => b"bwrite HOST T S",
-            Command::Crunch => b"crunch HOST [NAME]",
-            Command::Delete => b"delete PATTERN ..",
-            Command::Format => b"format NAME,ID",
-            Command::ListHistory => b"history",
-            Command::Keep => b"keep HOST",
-            Command::ListDirectory => b"list",
-            Command::Name => b"name TEXT[,ID]",
-            Command::Petcat => b"petcat NAME",
-            Command::Quit => b"quit",
-            Command::Read => b"read NAME [HOST]",
-            Command::Redo => b"redo",
-            Command::Rename => b"rename OLD NEW",
-            Command::Save => b"save [HOST]",
-            Command::ShowText => b"type NAME",
-            Command::Undelete => b"undelete NAME[,T]",
-            Command::Undo => b"undo",
-            Command::Validate => b"validate",
-            Command::Write => b"write HOST [NAME[,T]]",
-            Command::Unknown => b"d64sh help shell lists the commands",
+            LineCommand::Block => b"block T S",
+            LineCommand::BlockRead => b"bread HOST T S",
+            LineCommand::BlockWrite => b"bwrite HOST T S",
+            LineCommand::Crunch => b"crunch HOST [NAME]",
+            LineCommand::Delete => b"delete PATTERN ..",
+            LineCommand::Format => b"format NAME,ID",
+            LineCommand::ListHistory => b"history",
+            LineCommand::Keep => b"keep HOST",
+            LineCommand::ListDirectory => b"list",
+            LineCommand::Name => b"name TEXT[,ID]",
+            LineCommand::Petcat => b"petcat NAME",
+            LineCommand::Quit => b"quit",
+            LineCommand::Read => b"read NAME [HOST]",
+            LineCommand::Redo => b"redo",
+            LineCommand::Rename => b"rename OLD NEW",
+            LineCommand::Save => b"save [HOST]",
+            LineCommand::ShowText => b"type NAME",
+            LineCommand::Undelete => b"undelete NAME[,T]",
+            LineCommand::Undo => b"undo",
+            LineCommand::Validate => b"validate",
+            LineCommand::Write => b"write HOST [NAME[,T]]",
+            LineCommand::Unknown => b"d64sh help shell lists the commands",
         }
     }
 }

@@ -2,7 +2,7 @@
 ghost use Rattle.std.specs.Prelude.{◌≡◌};
 ghost use Rattle.script_hints.specs.Kept.{effect_of, is_unsaved, kept_after, kept_in, unless_replaced};
 
-use crate::command::Command;
+use crate::command::LineCommand;
 use crate::said::Said;
 use d64_image::Image;
 use sha2::{Digest, Sha256};
@@ -37,23 +37,23 @@ pub(crate) fn kept_after(
 ) -> Option<Kept>
     ensures { result ≡ kept_after kept (effect_of home.now found.now said.now) image.now }
 {
-    match Command::of(said.word) {
-        Command::Save => {
+    match LineCommand::of(said.word) {
+        LineCommand::Save => {
             if said.first.is_empty() {
                 Some(Kept::of(image, home.as_bytes()))
             } else {
                 Some(Kept::of(image, said.first))
             }
         }
-        Command::Keep => Some(Kept::of(image, said.first)),
-        Command::Read => {
+        LineCommand::Keep => Some(Kept::of(image, said.first)),
+        LineCommand::Read => {
             if said.second.is_empty() {
                 unless_replaced(kept, found)
             } else {
                 unless_replaced(kept, said.second)
             }
         }
-        Command::BlockRead => unless_replaced(kept, said.first),
+        LineCommand::BlockRead => unless_replaced(kept, said.first),
         _ => kept,
     }
 }

@@ -1,7 +1,7 @@
 //! What else there is to say about a line that is typed: which command or name was meant, why
 //! nothing was deleted, what is gone, and the file of the host that may be in the way.
 
-use crate::command::Command;
+use crate::command::LineCommand;
 use crate::found::{Found, default_name};
 use crate::hint::Hint;
 use crate::near::near_command;
@@ -23,20 +23,20 @@ pub(crate) fn more_about(
     files: usize,
 ) -> Option<Vec<u8>> {
     let mut line = Vec::new(alloc);
-    let pushed = match (Command::of(said.word), *status) {
+    let pushed = match (LineCommand::of(said.word), *status) {
         (_, Status::SyntaxError) if said.count == 0 => push_odd(&mut line, text),
         (_, Status::UnknownCommand) if matches!(Hint::of(said.word), Hint::Unknown) => {
             push_near(&mut line, near_command(said.word.as_bytes()))
         }
-        (Command::Undelete, Status::FileNotFound) => Ok(()),
+        (LineCommand::Undelete, Status::FileNotFound) => Ok(()),
         (_, Status::FileNotFound) => push_missing(&mut line, &Found::of(alloc, image, said.first)),
-        (Command::Delete, Status::FilesScratched { count: 0 }) => {
+        (LineCommand::Delete, Status::FilesScratched { count: 0 }) => {
             push_undeleted(&mut line, &Found::of(alloc, image, said.first))
         }
-        (Command::Read, Status::Done) if said.second.is_empty() => {
+        (LineCommand::Read, Status::Done) if said.second.is_empty() => {
             push_place(&mut line, &default_name(alloc, image, said.first))
         }
-        (Command::Format, Status::Done) if files > 0 => push_gone(&mut line, files),
+        (LineCommand::Format, Status::Done) if files > 0 => push_gone(&mut line, files),
         _ => Ok(()),
     };
     match pushed {

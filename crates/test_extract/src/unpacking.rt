@@ -3,7 +3,7 @@ ghost use Rattle.std.specs.Prelude.{ℕ, List, IfOk};
 ghost use Rattle.d64_dos.specs.Change.{change_of};
 ghost use Rattle.d64_dos.specs.Command.{IsWithin};
 
-use cmd_extract::{Setup, Unpacker};
+use cmd_extract::{ExtractSetup, Unpacker};
 use cmd_files::Form;
 use d64_dos::{Command, apply};
 use d64_files::{Kind, Name};
@@ -57,7 +57,7 @@ fn disk(rt: &HostRuntime) -> Result<Image, Fail> {
 
 /// Returns an unpacker into the folder `out`.
 fn unpacker(rt: &HostRuntime, skips: bool) -> Result<Unpacker, Fail> {
-    let setup = Setup {
+    let setup = ExtractSetup {
         into: String::from_str(rt.alloc(), "out")?,
         with_parts: false,
         skips,

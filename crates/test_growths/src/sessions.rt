@@ -5,7 +5,7 @@ use crate::disk::{PROGRAM, changed_blocks, disk, same, within, write};
 use crate::end::{Bench, End};
 use d64_dos::{Command, Refusal};
 use d64_image::Image;
-use d64_undo::{ReadFault, ResumeFault, Session};
+use d64_undo::{ResumeFault, Session, SessionReadFault};
 use std::alloc::Global;
 use std::test::Fail;
 
@@ -128,7 +128,7 @@ pub fn resume_from(bench: &Bench) -> Result<End, Fail> {
     bench.begin()?;
     match d64_undo::resume_from(bench.alloc(), &mut reader, u32::MAX) {
         Ok(session) => Ok(end_of_resumed(beside, Ok(session))),
-        Err(ReadFault::Resume(fault)) => Ok(end_of_resumed(beside, Err(fault))),
+        Err(SessionReadFault::Resume(fault)) => Ok(end_of_resumed(beside, Err(fault))),
         Err(_) => Ok(End::Refused),
     }
 }

@@ -4,7 +4,7 @@ use crate::disks::holiday;
 use crate::files::{broken, hello};
 use cmd_files::{Form, print_error, print_extract_heading, print_file, print_length};
 use d64_inventory::FileRow;
-use d64_leftovers::Row;
+use d64_leftovers::ListedRow;
 use d64_survey::Survey;
 use out_json_csv::{IS_THERE, Scratch};
 use program_arguments::{Format, Leftovers};
@@ -25,7 +25,7 @@ fn prints(
     };
     let dump = holiday(rt)?;
     let survey = Survey::of(dump.image());
-    let row = Row::File(file);
+    let row = ListedRow::File(file);
     let mut scratch = Scratch::new(rt.alloc());
     let lines = print_extract_heading(form, &mut scratch, Vec::new(rt.alloc()))?;
     let lines = print_file(form, &mut scratch, b"a.d64", &survey, &row, path, lines)?;

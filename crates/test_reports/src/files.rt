@@ -4,7 +4,7 @@ use arrayvec::ArrayVec;
 use cmd_files::{files_header, push_file_line, row_csv, row_json};
 use d64_files::Kind;
 use d64_inventory::{Content, FileRow};
-use d64_leftovers::Row;
+use d64_leftovers::ListedRow;
 use d64_survey::Flaw;
 use out_json_csv::Scratch;
 use program_arguments::Leftovers;
@@ -83,7 +83,7 @@ fn prints(rt: &HostRuntime, file: FileRow, expected: &[u8]) -> Result<bool, Fail
     let mut scratch = Scratch::new(rt.alloc());
     let mut line = Vec::new(rt.alloc());
     push_file_line(&mut scratch.text, &mut line, &file)?;
-    let row = Row::File(file);
+    let row = ListedRow::File(file);
     let lines = row_json(
         leftovers,
         &mut scratch,

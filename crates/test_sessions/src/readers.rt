@@ -3,7 +3,7 @@
 use d64_dos::Command;
 use d64_files::{Kind, Name, Pattern};
 use d64_image::Image;
-use d64_undo::{ReadFault, ResumeFault, Resuming, Session, resume_from};
+use d64_undo::{ResumeFault, Resuming, Session, SessionReadFault, resume_from};
 use std::alloc::Global;
 use std::io::{self, ErrorKind, Read};
 use std::test::Fail;
@@ -66,7 +66,7 @@ fn long_file(alloc: Global) -> Result<Vec<u8>, Fail> {
 }
 
 /// Returns the result of reading these bytes, after which reading fails or ends.
-fn fault_of(alloc: Global, bytes: &[u8], fails: bool, limit: u32) -> Option<ReadFault> {
+fn fault_of(alloc: Global, bytes: &[u8], fails: bool, limit: u32) -> Option<SessionReadFault> {
     let mut reader = Pieces {
         left: bytes,
         at_most: 4096,
@@ -109,7 +109,7 @@ fn a_read_that_fails_comes_before_other_faults(rt: HostRuntime) -> Result<(), Fa
     for bytes in [file.as_slice(), other.as_slice(), b""] {
         assert_eq!(rt;
             fault_of(rt.alloc(), bytes, true, 600_000),
-            Some(ReadFault::Device)
+            Some(SessionReadFault::Device)
         );
     }
     Ok(())
@@ -118,10 +118,10 @@ fn a_read_that_fails_comes_before_other_faults(rt: HostRuntime) -> Result<(), Fa
 #[test]
 fn a_byte_too_many_comes_before_other_bytes(rt: HostRuntime) -> Result<(), Fail> {
     let other = vec![in rt.alloc(); 0x44u8; 500_000]?;
-    let no_session = Some(ReadFault::Resume(ResumeFault::NotSession));
+    let no_session = Some(SessionReadFault::Resume(ResumeFault::NotSession));
     assert_eq!(rt;
         fault_of(rt.alloc(), &other, false, 499_999),
-        Some(ReadFault::TooLong)
+        Some(SessionReadFault::TooLong)
     );
     assert_eq!(rt; fault_of(rt.alloc(), &other, false, 500_000), no_session);
     Ok(())
@@ -130,10 +130,10 @@ fn a_byte_too_many_comes_before_other_bytes(rt: HostRuntime) -> Result<(), Fail>
 #[test]
 fn read_faults_say_what_is_wrong(rt: HostRuntime) -> Result<(), Fail> {
     let texts = [
-        (ReadFault::Device, "a read failed"),
-        (ReadFault::TooLong, "the session file is too long"),
+        (SessionReadFault::Device, "a read failed"),
+        (SessionReadFault::TooLong, "the session file is too long"),
         (
-            ReadFault::Resume(ResumeFault::Trailing),
+            SessionReadFault::Resume(ResumeFault::Trailing),
             "there is more after the session file's end",
         ),
     ];

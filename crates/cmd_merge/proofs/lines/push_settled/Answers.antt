@@ -3,8 +3,8 @@ use Rattle.std.proofs.lemmas.Result.{on_ok_weaker}
 use Rattle.std.specs.Prelude.{decimal}
 use Rattle.std.specs.List.{flat_map}
 use Rattle.d64_merge.specs.Merged.{outcome_count}
-use Rattle.d64_merge.specs.declared.outcome.Outcome.{Outcome}
-use Rattle.d64_merge.specs.declared.outcome.Outcome.TheVariants.{Same, Taken, Lost, Majority, First, Conflict}
+use Rattle.d64_merge.specs.declared.outcome.BlockOutcome.{BlockOutcome}
+use Rattle.d64_merge.specs.declared.outcome.BlockOutcome.TheVariants.{Same, Taken, Lost, Majority, First, Conflict}
 use Rattle.cmd_merge.proofs.Joined.{three, four}
 use Rattle.cmd_merge.specs.Lines.{count_if_any, settled_text}
 use Rattle.cmd_merge.proofs.lines.push_settled.Goals as goal
@@ -17,7 +17,7 @@ returns c =
     let one = c.push_number.new.out.items in
     let second = c.extend_from_slice.new.self.items in
     let third = c.push_if_any.new.out.items in
-    let by : Outcome → List ℕ → List ℕ = λ outcome word. count_if_any (outcome_count outcome list) word in
+    let by : BlockOutcome → List ℕ → List ℕ = λ outcome word. count_if_any (outcome_count outcome list) word in
     let a : one ≡ old ++ decimal (outcome_count Same list) = c.in_ok-push_number.ensures ∙ ap (λ (n : ℕ). old ++ decimal n) c.count_of.ensures.count in
     let b : second ≡ one ++ codes " the same in all dumps" = c.in_ok-extend_from_slice.ensures.items in
     let d : third ≡ second ++ by Taken (codes " taken") = c.in_ok-push_if_any.ensures ∙ ap (λ (n : ℕ). second ++ count_if_any n (codes " taken")) c.count_of-2.ensures.count in

@@ -3,7 +3,7 @@ use Rattle.host_storage.specs.Host.{one_more_failure}
 use Rattle.host_storage.specs.declared.host.HostFault.TheVariants.{Device, TooLong}
 use Rattle.d64_undo.specs.FromReader.{IsReadFault}
 use Rattle.d64_undo.specs.SessionFile.{file_of}
-use Rattle.d64_undo.specs.declared.from_reader.ReadFault.{ReadFault}
+use Rattle.d64_undo.specs.declared.from_reader.SessionReadFault.{SessionReadFault}
 use Rattle.cmd_shell.specs.ShellRuns.{GivesNoSession, session_limit}
 use Rattle.program_exit.specs.declared.program_fault.ProgramFault.{ProgramFault}
 use Rattle.cmd_shell.proofs.SessionFiles.{fetches_failed, fetches_none, fetches_read, fetches_too_long, gives_none}
@@ -42,7 +42,7 @@ returns-in-Ok-resume_from-clause-session g c =
 pub returns-in-Err-Resume-clause-none : goal.returns-in-Err-Resume-clause-none
 returns-in-Err-Resume-clause-none g c =
     let opened = c.in-Ok.ensures in
-    let read = subst (λ (fault : ReadFault). IsReadFault (g.H.File.Read.remaining c.in-Ok.file) session_limit fault) c.in-Err-Resume.field-0-is c.in-Err-Resume.ensures.fault in (
+    let read = subst (λ (fault : SessionReadFault). IsReadFault (g.H.File.Read.remaining c.in-Ok.file) session_limit fault) c.in-Err-Resume.field-0-is c.in-Err-Resume.ensures.fault in (
       Ok read.0,
       record {
         answer = fetches_read (g.H.Host.state c.args.host.now).files c.args.name.now session_limit (g.H.File.Read.remaining c.in-Ok.file) read.0
@@ -61,7 +61,7 @@ returns-in-Err-TooLong-clause-none g c =
       Err TooLong,
       record {
         answer = fetches_too_long (g.H.Host.state c.args.host.now).files c.args.name.now session_limit (g.H.File.Read.remaining c.in-Ok.file)
-            opened.answer (subst (λ (fault : ReadFault). IsReadFault (g.H.File.Read.remaining c.in-Ok.file) session_limit fault) c.in-Err-TooLong.field-0-is c.in-Err-TooLong.ensures.fault);
+            opened.answer (subst (λ (fault : SessionReadFault). IsReadFault (g.H.File.Read.remaining c.in-Ok.file) session_limit fault) c.in-Err-TooLong.field-0-is c.in-Err-TooLong.ensures.fault);
         bytes = tt;
         counted = opened.counted;
         kept = opened.files_kept;
