@@ -4,13 +4,14 @@ ghost use Rattle.program_batch.specs.Answers.{Answer};
 ghost use Rattle.cmd_diff.specs.Differences.{contents_by, printed_difference, unanswered_pair, difference_rule, difference_by};
 
 use crate::drafts::Drafts;
-use crate::dump_buffer::{DumpBuffer, are_same};
+use crate::dump_buffer::{are_same, refill};
 use crate::printing::{print_changes, push_difference};
 use crate::unanswered::{print_fault, push_fault_lines};
 use d64_survey::Inspection;
 use out_json_csv::Scratch;
 use program_arguments::DiffForm;
 use program_batch::{Reason, ReportBuffer, Verdict};
+use program_reports::DumpBuffer;
 use std::alloc::{AllocError, Global};
 use std::mem;
 
@@ -120,8 +121,8 @@ impl DifferenceReport {
             record { printed = buffer.new.printed.items; complaint = buffer.new.complaint.items; verdict = verdict }
             ≡ difference_rule self.old.form old_name.now (Ok old.now) new_name.now (Ok new.now)) }
     {
-        let is_old = self.earlier.refill(old)?;
-        let is_new = self.later.refill(new)?;
+        let is_old = refill(&mut self.earlier, old)?;
+        let is_new = refill(&mut self.later, new)?;
         if !is_old || !is_new {
             return self.report_unanswered(old_name, Ok(old), new_name, Ok(new), buffer);
         }

@@ -12,9 +12,9 @@ use std::alloc::{AllocError, Global};
 #[derive(Drop)]
 pub struct DumpBuffer {
     alloc: Global,
-    pub(crate) dump: Dump,
-    pub(crate) faults: Vec<Fault>,
-    pub(crate) errors: Vec<ReadError>,
+    pub dump: Dump,
+    pub faults: Vec<Fault>,
+    pub errors: Vec<ReadError>,
 }
 
 impl DumpBuffer {

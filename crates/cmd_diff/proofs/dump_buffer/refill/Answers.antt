@@ -2,7 +2,7 @@ use Rattle.std.proofs.Common.{ap, Err}
 use Rattle.d64_survey.specs.Dump.{wrong_dump_length}
 use Rattle.d64_survey.specs.declared.dump.DumpFault.{DumpFault}
 use Rattle.d64_g64.proofs.Dumps.{no_part}
-use Rattle.cmd_diff.proofs.dump_buffer.DumpBuffer.refill.Goals as goal
+use Rattle.cmd_diff.proofs.dump_buffer.refill.Goals as goal
 
 pub returns-in-Ok : goal.returns-in-Ok
 returns-in-Ok c = c.in-Ok.ensures.filled
