@@ -11,6 +11,7 @@ use Rattle.d64_survey.specs.SlotBlocks.{slot_blocks}
 use Rattle.d64_survey.specs.declared.flaw.Flaw.{Flaw}
 use Rattle.petscii.specs.Spelling.{spelling}
 use Rattle.out_messages.specs.FileText.{letters_of, flaws_text}
+use Rattle.cmd_files.specs.FileTable.{locked_text}
 use Rattle.out_markup.specs.Markup.{element}
 use Rattle.cmd_catalogue.specs.Elements.{linked_text_in, text_in}
 use Rattle.cmd_catalogue.specs.Links.{Naming, file_url, first_naming, naming_after}
@@ -28,10 +29,6 @@ abbrev pub wholeness_text : Option Bool → Disk → Bytes → List Flaw → Lis
 wholeness_text None image cell flaws = slot_unknown_text image cell flaws
 wholeness_text (Some true) image cell flaws = codes "whole"
 wholeness_text (Some false) image cell flaws = slot_reasons image cell flaws
-
--- that a file is locked
-abbrev pub locked_text : Bool → List ℕ
-locked_text locked = if locked then codes ", locked" else []
 
 -- the state of the file of a slot with these flaws
 unfoldable pub slot_state_words : Disk → Bytes → List Flaw → List ℕ

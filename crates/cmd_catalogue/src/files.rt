@@ -3,7 +3,7 @@ ghost use Rattle.std.specs.Prelude.{◌≡◌, ◌≤◌, [], ◌++◌, length, 
 ghost use Rattle.d64_survey.specs.Flaws.{wholeness_by};
 ghost use Rattle.d64_survey.specs.Owners.{way_slots};
 ghost use Rattle.out_messages.specs.FileText.{letters_of};
-ghost use Rattle.cmd_catalogue.specs.Files.{slot_reasons, slot_unknown_text, wholeness_text, locked_text, slot_state_words, state_class, state_cell, size_cell, name_cell, kind_cell, file_cells, flawed_row, used_row, file_row, file_rows, linked_rows, dump_rows, table_head, table};
+ghost use Rattle.cmd_catalogue.specs.Files.{slot_reasons, slot_unknown_text, wholeness_text, slot_state_words, state_class, state_cell, size_cell, name_cell, kind_cell, file_cells, flawed_row, used_row, file_row, file_rows, linked_rows, dump_rows, table_head, table};
 ghost use Rattle.d64_files.specs.Directory.{entries};
 ghost use Rattle.out_markup.specs.Markup.{element};
 ghost use Rattle.cmd_catalogue.specs.Links.{file_url, first_naming, naming_after};
@@ -11,6 +11,7 @@ ghost use Rattle.cmd_catalogue.specs.Namings.{naming_of};
 
 use crate::element::{push_linked_text_in, push_text_in};
 use crate::host_files::HostFiles;
+use cmd_files::locked_text;
 use d64_files::Entry;
 use d64_image::Image;
 use d64_survey::{Flaw, Inspection, wholeness};
@@ -75,13 +76,6 @@ fn push_wholeness(
         Some(false) => push_reasons(out, image, entry, flaws),
         None => push_unknown(out, image, entry, flaws),
     }
-}
-
-/// Returns the text of a locked file; empty if it is not locked.
-fn locked_text(locked: bool) -> &'static [u8]
-    ensures { result.now ≡ locked_text locked }
-{
-    if locked { b", locked" } else { b"" }
 }
 
 /// Appends the state of the file of a slot with these flaws.

@@ -101,7 +101,7 @@ fn push_wholeness(out: &mut Vec<u8>, row: &FileRow) -> Result<(), AllocError>
 }
 
 /// Returns the text of a locked file; empty if it is not locked.
-fn locked_text(locked: bool) -> &'static [u8]
+pub fn locked_text(locked: bool) -> &'static [u8]
     ensures { result.now ≡ locked_text locked }
 {
     if locked { b", locked" } else { b"" }
