@@ -19,9 +19,8 @@ use host_storage::Host;
 use script_text::held_line::HeldLine;
 use script_text::raw_lines;
 use script_text::status::Status;
-use script_text::words::{MAX_WORDS, Words};
+use script_text::words::{MAX_WORDS, Words, as_text};
 use std::alloc::Global;
-use std::str;
 
 /// The most arguments that a command takes, counting itself, except for `delete`. A list for these
 /// takes less time to make than one for all that a line may have.
@@ -112,14 +111,6 @@ fn held<'a, const ROOM: usize>(words: Words<'a>) -> ArrayVec<&'a str, ROOM>
     found
 }
 
-/// An argument, whose bytes are ASCII, as a text.
-fn as_text(word: &[u8]) -> &str
-    requires { All IsPrintable word.now }
-    ensures { result.now ≡ word.now }
-{
-    str::from_utf8(word).unwrap()
-}
-
 /// Runs a line by its command and arguments.
 fn answer_arguments<H: Host>(
     alloc: Global,
@@ -168,7 +159,7 @@ fn answer<H: Host>(
         Line::ListDirectory => handlers::list(alloc, session),
         Line::Name { name_and_id } => handlers::name(alloc, session, name_and_id),
         Line::Petcat { name } => handlers::petcat(alloc, session, name),
-        Line::Quit => handlers::quit(session),
+        Line::Quit => handlers::quit(),
         Line::Read { name, host: target } => handlers::read(alloc, host, session, name, target),
         Line::Redo => handlers::redo(session),
         Line::Rename { old, new } => handlers::rename(alloc, session, old, new),

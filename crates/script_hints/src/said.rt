@@ -5,9 +5,8 @@ ghost use Rattle.script_text.specs.Words.{IsPrintable};
 ghost use Rattle.script_hints.specs.Said.{first_of, said_of, said_in, said_by};
 
 use script_text::held_line::HeldLine;
-use script_text::words::Words;
+use script_text::words::{Words, as_text};
 use std::marker::Model;
-use std::str;
 
 /// The command and the arguments of a line; a missing one is empty.
 #[derive(Drop)]
@@ -98,12 +97,4 @@ fn next_word<'a>(words: &mut Words<'a>) -> &'a [u8]
         Some(word) => word,
         None => b"",
     }
-}
-
-/// An argument, whose bytes are ASCII, as a text.
-fn as_text(word: &[u8]) -> &str
-    requires { All IsPrintable word.now }
-    ensures { result.now ≡ word.now }
-{
-    str::from_utf8(word).unwrap()
 }

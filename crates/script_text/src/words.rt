@@ -7,6 +7,7 @@ ghost use Rattle.script_text.specs.Words.{IsPrintable, is_printable, is_quote, e
 
 use crate::raw_lines::LINE_BYTES;
 use std::marker::Model;
+use std::str;
 use thiserror::Error;
 
 /// The most words that a line has, since there is a space between two words.
@@ -14,7 +15,7 @@ pub const MAX_WORDS: usize = 512;
 
 /// The error of a line that can't be split into words.
 #[derive(Clone, Copy, Debug, PartialEq, Eq, Error)]
-#[error("a byte or a quote stands where no line holds it")]
+#[error("the line has a byte that is not printable ASCII, or a quote inside of a word")]
 pub struct NoWords;
 
 /// The words of a line that are left, in order. A quoted word comes without its quotes.
@@ -190,4 +191,12 @@ fn word_before<'a>(word: &'a [u8], rest: &'a [u8]) -> Option<(&'a [u8], &'a [u8]
         [] | [b' ', ..] => Some((word, rest)),
         _ => None,
     }
+}
+
+/// A word of a line, whose bytes are ASCII, as a text.
+pub fn as_text(word: &[u8]) -> &str
+    requires { All IsPrintable word.now }
+    ensures { result.now ≡ word.now }
+{
+    str::from_utf8(word).unwrap()
 }

@@ -3,7 +3,7 @@ use Rattle.std.proofs.lemmas.List.Elements.{All-weaker}
 use Rattle.std.proofs.lemmas.Str.{IsUtf8-from_ascii}
 use Rattle.std.proofs.lemmas.Str.Ascii.{IsAscii-from_all}
 use Rattle.script_text.specs.Words.{IsPrintable}
-use Rattle.script_hints.proofs.said.as_text.Goals as goal
+use Rattle.script_text.proofs.words.as_text.Goals as goal
 
 pub unwrap-requires : goal.unwrap-requires
 unwrap-requires c =
