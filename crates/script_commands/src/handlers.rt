@@ -262,10 +262,9 @@ fn show_program(alloc: Global, session: &Session, pattern: &Pattern) -> Result<R
 }
 
 /// `quit`: ends the run.
-pub(crate) fn quit(session: &Session) -> Result<Response, Status>
-    ensures { RespondsAlone (quit_act session.now) session.now result session.now }
+pub(crate) fn quit() -> Result<Response, Status>
+    ensures { (history : History) → RespondsAlone (quit_act history) history result history }
 {
-    let _ = session;
     Ok(Response {
         output: Output::Nothing,
         status: Status::Done,

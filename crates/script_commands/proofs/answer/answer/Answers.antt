@@ -13,7 +13,7 @@ pub returns-in-Petcat : goal.returns-in-Petcat
 returns-in-Petcat g c = rw c.in-Petcat.is (c.petcat.ensures _)
 
 pub returns-in-Quit : goal.returns-in-Quit
-returns-in-Quit g c = rw c.in-Quit.is (c.quit.ensures _)
+returns-in-Quit g c = rw c.in-Quit.is (c.quit.ensures _ _)
 
 pub returns-in-Rename : goal.returns-in-Rename
 returns-in-Rename g c = rw c.in-Rename.is (c.rename.ensures _)
