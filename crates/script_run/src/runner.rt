@@ -42,7 +42,7 @@ pub enum ShellFault {
     #[error("the script cannot be read to its end")]
     Read,
     /// A write failed, or wrote nothing. A part of the output was written.
-    #[error("the answers cannot be written")]
+    #[error("the output cannot be written")]
     Write,
     /// There is no memory. It never comes, since reading allocates nothing, and a command that
     /// finds no memory prints that as its status.

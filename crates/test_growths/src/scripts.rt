@@ -85,7 +85,7 @@ fn end_of_tool(answer: Result<(), ToolFault>, written: &[u8]) -> End {
 
 /// The texts of faults, one on each line.
 const FAULT_TEXTS: &str = "the script cannot be read to its end
-the answers cannot be written
+the output cannot be written
 out of memory
 the input cannot be read to its end
 the output could not be written
