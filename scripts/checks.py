@@ -17,6 +17,7 @@ TEXTS = [
     ["scripts/functions-without-wrong-body"],
     ["scripts/out-of-memory-places"],
     ["scripts/crates-listed"],
+    ["scripts/names-once"],
     ["scripts/check-pages", "--names", *PAGES],
     ["scripts/manual-page", "docs/MANUAL.md", "docs/d64sh.1"],
     ["scripts/same-words"],
