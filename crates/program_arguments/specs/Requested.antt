@@ -1,9 +1,9 @@
 -- What the arguments of the program ask for.
-use Rattle.std.specs.Prelude.{◌≡◌, ◌≢◌, ◌⊎◌, ◌∷◌, ◌++◌, ℕ, List, [], codes, None, Option, Some, option_map, IsSome, IsSomeAnd, String, map, string_bytes, ⊤}
+use Rattle.std.specs.Prelude.{◌≡◌, ◌≢◌, ◌⊎◌, ◌∷◌, ℕ, List, [], codes, None, Option, Some, option_map, IsSome, IsSomeAnd, String, map, string_bytes, ⊤}
 use Rattle.clap.specs.Words.{Row, Text, IsAmong, fault_of, first_of, kind_of, subcommand_of}
 use Rattle.clap.specs.declared.error.Error.{Error}
 use Rattle.clap.specs.declared.error.kind.ErrorKind.TheVariants.{DisplayHelp, DisplayVersion, OutOfMemory}
-use Rattle.program_arguments.specs.Commands.{d64sh}
+use Rattle.program_arguments.specs.Commands.{apps, d64sh}
 use Rattle.program_arguments.specs.Start.{IsStartBy, HasNoAddress}
 use Rattle.program_arguments.specs.Tracks.{IsTracksBy, HasNoTracks}
 use Rattle.program_arguments.specs.Extraction.{HasNoFolder, IsExtractionBy}
@@ -34,9 +34,9 @@ IsOneOf (first ∷ rest) name = (name ≡ first) ⊎ IsOneOf rest name
 abbrev pub surveys : List Text
 surveys = codes "check" ∷ codes "files" ∷ codes "extract" ∷ []
 
--- the subcommands
+-- the names of the subcommands
 abbrev pub subcommands : List Text
-subcommands = codes "shell" ∷ codes "petcat" ∷ codes "crunch" ∷ (surveys ++ codes "map" ∷ codes "diff" ∷ codes "merge" ∷ codes "catalogue" ∷ [])
+subcommands = map (λ app. app.top.name) apps
 
 -- the arguments that a subcommand requires, each with that subcommand
 abbrev pub requirements : List (Text × Text)

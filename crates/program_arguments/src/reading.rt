@@ -104,15 +104,8 @@ fn job_of(alloc: Global, name: &str, arguments: &ArgMatches) -> Result<Job, JobF
 {
     match name {
         "shell" => shell_job(alloc, arguments),
-        "petcat" => Ok(Job::Petcat {
-            file: value(alloc, arguments, "file")?,
-            output: value(alloc, arguments, "output")?,
-        }),
-        "crunch" => Ok(Job::Crunch {
-            start: start(arguments)?,
-            file: value(alloc, arguments, "file")?,
-            output: value(alloc, arguments, "output")?,
-        }),
+        "petcat" => petcat_job(alloc, arguments),
+        "crunch" => crunch_job(alloc, arguments),
         "check" => check_job(alloc, arguments),
         "files" => files_job(alloc, arguments),
         "extract" => extract_job(alloc, arguments),
@@ -139,6 +132,29 @@ fn shell_job(alloc: Global, arguments: &ArgMatches) -> Result<Job, JobFault>
         resume,
         lines: values(alloc, arguments, "command")?,
         stops_at_refusal: has_flag(arguments, "stop-at-refusal"),
+    })
+}
+
+/// Returns the job that `petcat` with these matches asks for.
+fn petcat_job(alloc: Global, arguments: &ArgMatches) -> Result<Job, JobFault>
+    ensures job { IfOk result (IsJobOf (codes "petcat", rows_of (found_of arguments.now))) }
+    ensures fault { IfErr result (IsFaultOf (codes "petcat", rows_of (found_of arguments.now))) }
+{
+    Ok(Job::Petcat {
+        file: value(alloc, arguments, "file")?,
+        output: value(alloc, arguments, "output")?,
+    })
+}
+
+/// Returns the job that `crunch` with these matches asks for.
+fn crunch_job(alloc: Global, arguments: &ArgMatches) -> Result<Job, JobFault>
+    ensures job { IfOk result (IsJobOf (codes "crunch", rows_of (found_of arguments.now))) }
+    ensures fault { IfErr result (IsFaultOf (codes "crunch", rows_of (found_of arguments.now))) }
+{
+    Ok(Job::Crunch {
+        start: start(arguments)?,
+        file: value(alloc, arguments, "file")?,
+        output: value(alloc, arguments, "output")?,
     })
 }
 
