@@ -12,6 +12,9 @@ use petscii::{TextFault, from_text};
 use script_text::raw_lines::{self, RawLines};
 use std::alloc::Global;
 
+/// The address at which a Commodore 64 has its BASIC programs.
+pub const PROGRAM_START: u16 = 0x0801;
+
 /// The greatest link.
 const GREATEST_LINK: usize = 65_535;
 

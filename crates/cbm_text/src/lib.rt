@@ -20,7 +20,7 @@ mod program;
 mod text_line;
 
 pub use cause::Cause;
-pub use crunching::crunch;
+pub use crunching::{PROGRAM_START, crunch};
 pub use fault::{BasicFault, ListFault};
 pub use faulty_text::{FaultyLine, FaultyLines, faulty_lines};
 pub use laws::{line_comes_back, one_program, text_comes_back};

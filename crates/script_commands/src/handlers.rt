@@ -16,13 +16,14 @@ use crate::arguments::{
 };
 use crate::file_text::file_text;
 use crate::history_text::history_text;
-use crate::host_file::fetch;
+use crate::host_file::{HOST_FILE_BYTES, fetch};
 use crate::listing_text::listing_text;
 use crate::response::{Output, Response};
 use crate::status_from::{
     of_basic_fault, of_fault, of_list_fault, of_nothing_to_redo, of_nothing_to_undo, of_refusal,
     of_reply,
 };
+use cbm_text::PROGRAM_START;
 use d64_dos::Command;
 use d64_files::{Kind, Name, Pattern};
 use d64_image::BlockNo;
@@ -32,12 +33,6 @@ use petscii::to_text;
 use script_text::status::Status;
 use std::alloc::Global;
 use std::str;
-
-/// The most bytes that a command accepts of a host file.
-pub const HOST_FILE_BYTES: usize = 1_048_576;
-
-/// The place of a BASIC program in the machine's memory.
-const PROGRAM_START: u16 = 0x0801;
 
 /// `block`: shows a block in sixteen lines.
 pub(crate) fn block(session: &Session, track: &str, sector: &str) -> Result<Response, Status>

@@ -6,6 +6,9 @@ ghost use Rattle.script_commands.specs.Act.{FetchesFile};
 use host_storage::{Host, HostFault};
 use std::alloc::Global;
 
+/// The most bytes that a command accepts of a host file.
+pub const HOST_FILE_BYTES: usize = 1_048_576;
+
 /// The bytes of a host file, at most `limit` of them.
 pub fn fetch<H: Host>(
     alloc: Global,

@@ -3,16 +3,12 @@ ghost use Rattle.std.specs.Prelude.{◌≡◌, IfOk, IfSome};
 ghost use Rattle.host_storage.specs.Files.{HostState};
 ghost use Rattle.script_hints.specs.TextCause.{HasCauseFirst, IsFirstCause, IsFoundCause, IsFoundLine, is_fault, text_cause_line};
 
-use cbm_text::{Cause, FaultyLine, faulty_lines};
+use cbm_text::{Cause, FaultyLine, PROGRAM_START, faulty_lines};
 use host_storage::Host;
+use script_commands::host_file::HOST_FILE_BYTES;
 use script_text::status::Status;
 use std::alloc::{AllocError, Global};
 use std::str;
-
-/// The most bytes of a text, and the address at which `crunch` has a program loaded.
-const HOST_FILE_BYTES: usize = 1_048_576;
-
-const PROGRAM_START: u16 = 0x0801;
 
 /// The line about the text in the host file with this name that was refused with this status: after
 /// this beginning, what is wrong with it, if it is still there and there is memory.
