@@ -1,7 +1,7 @@
 -- How a tool that is run as a job ends, and how that is reported.
 use Rattle.std.specs.Prelude.{◌≡◌, ℕ, List, [], Option, Some, None, Result, Ok, Err, ◌⊎◌}
 use Rattle.std.specs.Io.KnownBytes.{Keeps}
-use Rattle.script_text.specs.Input.{IsUnreadable}
+use Rattle.script_text.specs.Input.{IsUnreadable, input_limit}
 use Rattle.script_text.specs.Output.{Account, Writes}
 use Rattle.script_text.specs.Status.{status_line}
 use Rattle.host_storage.specs.Files.{Files, HostState}
@@ -24,7 +24,6 @@ use Rattle.program_exit.specs.declared.program_fault.ProgramFault.TheVariants.{R
 use Rattle.program_console.specs.Outside.{Outside}
 use Rattle.program_exit.specs.Faults.{Reports}
 use Rattle.program_batch.specs.Reasons.{IsWriteReason, with_known_reason}
-use Rattle.program_batch.specs.Runs.{file_limit}
 use Rattle.program_batch.specs.declared.reason.Reason.{Reason}
 
 -- the tool's fault for a host file that cannot be fetched
@@ -46,7 +45,7 @@ WritesFetched tool (Err fault) old new answer = (answer ≡ Err (fault_of_fetch 
 abbrev pub RanToolOn : {A : Type 0} → Tool → Option (List ℕ) → Outside → Outside → Result A ToolFault → Type 0
 RanToolOn tool None old new answer = RanTool tool old.reader new.reader old.output.contents new.output.contents answer × (new.host ≡ old.host)
 RanToolOn tool (Some name) old new answer = (new.reader ≡ old.reader)
-    × (fetched : Result (List ℕ) HostFault) × FetchesFile old.host name file_limit fetched new.host × WritesFetched tool fetched old.output.contents new.output.contents answer
+    × (fetched : Result (List ℕ) HostFault) × FetchesFile old.host name input_limit fetched new.host × WritesFetched tool fetched old.output.contents new.output.contents answer
 
 -- how a tool's result is reported: status 0 and no line if it wrote its output; 1 and a status
 -- line, whole unless writing it failed, if it refused its input; and otherwise 2 and the line of a
@@ -66,7 +65,7 @@ abbrev pub TakesInput : Option (List ℕ) → Option (List ℕ) → Option (List
 TakesInput None reader left old new (Ok bytes) = HasRead reader left bytes × (new ≡ old)
 TakesInput None reader left old new (Err fault) = ReadsNot reader left fault × (new ≡ old)
 TakesInput (Some name) reader left old new taken =
-    (left ≡ reader) × (fetched : Result (List ℕ) HostFault) × FetchesFile old name file_limit fetched new × (taken ≡ taken_of fetched)
+    (left ≡ reader) × (fetched : Result (List ℕ) HostFault) × FetchesFile old name input_limit fetched new × (taken ≡ taken_of fetched)
 
 -- what a tool has stored of the input that was taken with this result; nothing is stored if it
 -- could not be taken

@@ -6,9 +6,8 @@ use Rattle.cbm_text.specs.Listing.{Lists}
 use Rattle.cbm_text.specs.ListFault.{ListsNot}
 use Rattle.cbm_text.specs.declared.fault.ListFault.{ListFault}
 use Rattle.cbm_text.specs.declared.fault.ListFault.TheVariants as list_faults
-use Rattle.script_text.specs.Input.{Reading, IsUnreadable}
+use Rattle.script_text.specs.Input.{Reading, IsUnreadable, input_limit}
 use Rattle.script_text.specs.Output.{AppendsPart}
-use Rattle.script_text.specs.Script.{script_limit}
 use Rattle.host_storage.specs.Files.{HostState}
 use Rattle.host_storage.specs.declared.host.HostFault.{HostFault}
 use Rattle.host_storage.specs.declared.host.HostFault.TheVariants as files
@@ -79,7 +78,7 @@ HasStored tool input name old new answer =
 pub record HasRead (reader left : Option (List ℕ)) (input : List ℕ) : Type 0 where
   pub all : IfSome reader (λ bytes. input ≡ bytes)
   pub ended : IsAtEnd left
-  pub within : length input ≤ script_limit
+  pub within : length input ≤ input_limit
 
 -- the reader's bytes were not read to their end: some were read; or memory ran out, and nothing is
 -- known of those left

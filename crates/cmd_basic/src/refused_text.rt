@@ -3,7 +3,7 @@ ghost use Rattle.std.specs.Prelude.{◌≡◌, ◌-◌, ◌≤◌, ◌<◌, ◌^
 ghost use Rattle.std.specs.List.{flat_map};
 ghost use Rattle.cbm_text.specs.Causes.{cause_text};
 ghost use Rattle.cbm_text.specs.FaultyLines.{AreFaultyIn};
-ghost use Rattle.script_text.specs.Script.{script_limit};
+ghost use Rattle.script_text.specs.Input.{input_limit};
 ghost use Rattle.cmd_basic.specs.RefusedText.{HasSmallNumber, faulty_line, indented, more_lines, refused_text};
 
 use crate::refusal_line::push_refusal_line;
@@ -23,7 +23,7 @@ pub(crate) fn refused_text(
     start: u16,
     text: &[u8],
 ) -> Result<Vec<u8>, AllocError>
-    requires { length text.now ≤ script_limit }
+    requires { length text.now ≤ input_limit }
     ensures { IfOk result (λ out. (all : List FaultyLine) × AreFaultyIn start text.now all × (out.items ≡ refused_text (option_copied name.entry) all)) }
 {
     let found = faulty_lines(alloc, start, text, MOST_LINES)?;

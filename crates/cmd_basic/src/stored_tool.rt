@@ -1,8 +1,7 @@
 //! A tool whose result goes to a host file: it is stored whole or not at all, and a refused input
 //! is reported in the form of compilers.
 ghost use Rattle.std.specs.Prelude.{◌≡◌, ◌≤◌, ◌⊎◌, IfErr, IfOk, Ok, Err, Option, None, length, option_copied};
-ghost use Rattle.script_text.specs.Input.{IsUnread, IsUnreadable, reading_of};
-ghost use Rattle.script_text.specs.Script.{script_limit};
+ghost use Rattle.script_text.specs.Input.{IsUnread, IsUnreadable, reading_of, input_limit};
 ghost use Rattle.program_batch.specs.Reasons.{IsWriteReason, with_known_reason};
 ghost use Rattle.program_console.specs.Console.{IsFresh, SameStreams};
 ghost use Rattle.program_console.specs.Outside.{account_at, outside_at};
@@ -81,7 +80,7 @@ impl<'n> StoredTool<'n> {
         ensures input { input.new.reader.ghost_name ≡ input.old.reader.ghost_name }
         ensures bytes { IfOk result (λ bytes. TakesInput (option_copied self.entry.file) (R.remaining input.old.reader.now) (R.remaining input.new.reader.now) (H.state host.old) (H.state host.new) (Ok bytes.items)) }
         ensures fault { IfErr result (λ fault. TakesInput (option_copied self.entry.file) (R.remaining input.old.reader.now) (R.remaining input.new.reader.now) (H.state host.old) (H.state host.new) (Err fault)) }
-        ensures within { IfOk result (λ bytes. length bytes.items ≤ script_limit) }
+        ensures within { IfOk result (λ bytes. length bytes.items ≤ input_limit) }
         ensures reads { option_copied self.entry.file ≡ None → result ≡ Err ToolFault.Read → IsUnreadable (reading_of input.new.reads input.new.came input.new.has_failed) }
     {
         let Some(name) = self.file else {
@@ -120,7 +119,7 @@ impl<'n> StoredTool<'n> {
         host: &H,
         faults: &mut OutputStream<'_, F>,
     ) -> u8
-        requires { length bytes.now ≤ script_limit }
+        requires { length bytes.now ≤ input_limit }
         ensures faults { faults.new.writer.ghost_name ≡ faults.old.writer.ghost_name }
         ensures status { result ≤ 2 }
         ensures reported { ReportsStored self.entry.tool (option_copied self.entry.file) bytes.now self.entry.target.now (H.state host.now).files answer (account_at F.contents faults.old) (account_at F.contents faults.new) result }
@@ -143,7 +142,7 @@ impl<'n> StoredTool<'n> {
         text: &[u8],
         faults: &mut OutputStream<'_, F>,
     ) -> u8
-        requires { length text.now ≤ script_limit }
+        requires { length text.now ≤ input_limit }
         ensures faults { faults.new.writer.ghost_name ≡ faults.old.writer.ghost_name }
         ensures status { (result ≡ 1) ⊎ (result ≡ 2) }
         ensures reported { ReportsFaultyLines (option_copied self.entry.file) (start_of self.entry.tool) text.now (account_at F.contents faults.old) (account_at F.contents faults.new) result }

@@ -2,8 +2,7 @@
 //! to all of an output.
 
 ghost use Rattle.std.specs.Prelude.{◌≡◌, ◌≤◌, false, length, IfOk, IfErr, OnOk};
-ghost use Rattle.script_text.specs.Input.{IsUnread, IsUnreadable, reading_of};
-ghost use Rattle.script_text.specs.Script.{script_limit};
+ghost use Rattle.script_text.specs.Input.{IsUnread, IsUnreadable, reading_of, input_limit};
 ghost use Rattle.cmd_basic.specs.declared.tools.ToolFault.TheVariants.{Read};
 ghost use Rattle.cmd_basic.specs.Tools.{ToolMakes, Refuses, HasRead, ReadsNot, HasWritten, ReadsWith, RanTool, HasSmallLine, WritesWith, start_of};
 
@@ -99,7 +98,7 @@ impl Tool {
         input: &[u8],
         output: &mut OutputStream<'_, W>,
     ) -> Result<(), ToolFault>
-        requires { length input.now ≤ script_limit }
+        requires { length input.now ≤ input_limit }
         ensures output { output.new.writer.ghost_name ≡ output.old.writer.ghost_name }
         ensures written { HasWritten self input.now (W.contents output.old.writer.now) (W.contents output.new.writer.now) result }
         ensures line { IfErr result HasSmallLine }

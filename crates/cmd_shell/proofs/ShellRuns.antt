@@ -3,9 +3,8 @@ use Rattle.std.proofs.Common.{◌≡◌, ℕ, List, [], ◌++◌, take, Bor, Opt
 use Rattle.std.specs.Io.KnownBytes.{Keeps}
 use Rattle.std.proofs.KnownBytes.{Appends-kept}
 use Rattle.script_text.specs.RawLines.{lines_of, ended_lines}
-use Rattle.script_text.specs.Input.{Reading}
+use Rattle.script_text.specs.Input.{Reading, input_limit}
 use Rattle.script_text.specs.Output.{Account}
-use Rattle.script_text.specs.Script.{script_limit}
 use Rattle.host_storage.specs.Files.{HostState}
 use Rattle.d64_undo.specs.History.{History}
 use Rattle.cmd_shell.specs.Beginnings.{Beginning, Blank, ImageFile, SessionFile, Source, Input, Given, home_of}
@@ -76,7 +75,7 @@ Ran-flushed options reader left old new flushed (Err Read) ran kept = record {
   consumed = ran.consumed;
   lost = ran.lost;
   after = ran.after;
-  ran = RanLines-flushed options old new (ended_lines (take script_limit ran.consumed)) ran.after flushed ran.ran kept;
+  ran = RanLines-flushed options old new (ended_lines (take input_limit ran.consumed)) ran.after flushed ran.ran kept;
   open_run = ran.open_run;
 }
 Ran-flushed options reader left old new flushed (Err Write) ran kept = record {

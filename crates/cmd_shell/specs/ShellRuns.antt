@@ -1,8 +1,7 @@
 -- How the job of the shell ends.
 use Rattle.std.specs.Prelude.{◌≡◌, ℕ, ◌<◌, ◌==◌, true, false, if◌then◌else◌, List, [], length, replicate, Option, Some, Result, Ok, Err, ◌⊎◌, ⊤}
 use Rattle.std.specs.Io.KnownBytes.{Keeps}
-use Rattle.script_text.specs.Input.{Reading, IsUnreadable}
-use Rattle.script_text.specs.Script.{script_limit}
+use Rattle.script_text.specs.Input.{Reading, IsUnreadable, input_limit}
 use Rattle.host_storage.specs.Files.{HostState}
 use Rattle.host_storage.specs.declared.host.HostFault.{HostFault}
 use Rattle.d64_image.specs.Image.{IsImage, bytes_of, count_of_tracks, is_image_length}
@@ -21,7 +20,6 @@ use Rattle.program_exit.specs.declared.program_fault.ProgramFault.TheVariants.{W
 use Rattle.program_console.specs.Outside.{Outside}
 use Rattle.program_exit.specs.Faults.{fault_of_file, fault_of_resume, fault_of_run, Reports}
 use Rattle.cmd_shell.specs.Beginnings.{Beginning, Blank, ImageFile, SessionFile, Source, Input, Given}
-use Rattle.program_batch.specs.Runs.{file_limit}
 
 -- the most bytes of a session file that are read
 abbrev pub session_limit : ℕ
@@ -35,7 +33,7 @@ blank_image tracks = replicate (count_of_tracks tracks) (replicate BLOCK_BYTES 0
 abbrev pub IsFirstHistory : HostState → Beginning → History → HostState → Type 0
 IsFirstHistory old (Blank tracks) history new = (history ≡ new_history (blank_image tracks)) × (new ≡ old)
 IsFirstHistory old (ImageFile name) history new =
-    (image : List (List ℕ)) × IsImage image × FetchesFile old name file_limit (Ok (bytes_of image)) new × (history ≡ new_history image)
+    (image : List (List ℕ)) × IsImage image × FetchesFile old name input_limit (Ok (bytes_of image)) new × (history ≡ new_history image)
 IsFirstHistory old (SessionFile name) history new = IsSession history × FetchesFile old name session_limit (Ok (file_of history)) new
 
 -- a script has run that comes from the input, or from the arguments: then nothing of the input was
@@ -78,7 +76,7 @@ GivesNoSession (Ok bytes) reported = ((fault : ResumeFault) × (first_resume_fau
 -- why there is no session to begin with, and the state of the host then
 abbrev pub HasNoHistory : ProgramFault → HostState → Beginning → HostState → Type 0
 HasNoHistory reported old (Blank tracks) new = (reported ≡ Memory) × (new ≡ old)
-HasNoHistory reported old (ImageFile name) new = (fetched : Result (List ℕ) HostFault) × FetchesFile old name file_limit fetched new × GivesNoImage fetched reported
+HasNoHistory reported old (ImageFile name) new = (fetched : Result (List ℕ) HostFault) × FetchesFile old name input_limit fetched new × GivesNoImage fetched reported
 HasNoHistory reported old (SessionFile name) new = (fetched : Result (List ℕ) HostFault) × FetchesFile old name session_limit fetched new × GivesNoSession fetched reported
 
 -- no line has run, since there is no session
@@ -108,7 +106,7 @@ StoppedBy fault beginning source options old new =
 -- script may have
 abbrev pub IsReadDue : Source → Reading → Type 0
 IsReadDue Input reading = IsUnreadable reading
-IsReadDue (Given text) reading = script_limit < length text
+IsReadDue (Given text) reading = input_limit < length text
 
 -- a fault is due: of reading, as above; and of writing, if a write or a flush has failed
 abbrev pub IsDue : ProgramFault → Source → Outside → Type 0

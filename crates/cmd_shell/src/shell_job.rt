@@ -3,13 +3,12 @@ ghost use Rattle.std.specs.Prelude.{◌≡◌, ℕ, List, Result, Ok, Err, None,
 ghost use Rattle.host_storage.specs.declared.host.HostFault.{HostFault};
 ghost use Rattle.d64_image.specs.Image.{IsImage, bytes_of};
 ghost use Rattle.d64_undo.specs.SessionFile.{IsSession, file_of};
-ghost use Rattle.script_text.specs.Input.{reading_of};
+ghost use Rattle.script_text.specs.Input.{reading_of, input_limit};
 ghost use Rattle.script_commands.specs.Act.{FetchesFile, world_of};
 ghost use Rattle.script_run.specs.Runner.{options_of, script_state};
 ghost use Rattle.cmd_shell.specs.Beginnings.{Given, beginning_of, refusals_of, source_by, source_of, text_of_lines};
 ghost use Rattle.cmd_shell.specs.Scripts.{beginning_in, options_in, source_in};
 ghost use Rattle.cmd_shell.specs.ShellRuns.{IsDue, IsFirstHistory, IsReadDue, HasNoHistory, GivesNoImage, GivesNoSession, RanFrom, RanShell, StoppedBy, blank_image, session_limit, outcome_status};
-ghost use Rattle.program_batch.specs.Runs.{file_limit};
 ghost use Rattle.program_console.specs.Console.{IsDelivered, IsFresh, SameStreams};
 ghost use Rattle.program_console.specs.Outside.{outside_at};
 
@@ -255,11 +254,11 @@ fn image_of_file<H: Host, L: Observer>(
 ) -> Result<Image, ProgramFault>
     ensures image { IfOk result (λ image. IsImage image × FetchesFile
         (H.state host.old)
-        name.now file_limit (Ok (bytes_of image))
+        name.now input_limit (Ok (bytes_of image))
         (H.state host.new)) }
     ensures none { IfErr result (λ fault. (fetched : Result (List ℕ) HostFault) × FetchesFile
         (H.state host.old)
-        name.now file_limit fetched
+        name.now input_limit fetched
         (H.state host.new)
         × GivesNoImage fetched fault) }
 {

@@ -1,7 +1,7 @@
 -- How a run over a list that is read as it comes ends.
 use Rattle.std.proofs.Common.{◌≡◌, ℕ, Bool, List, Option, Result, Ok, Err, subst}
-use Rattle.script_parts.specs.Parts.{CutsShort, Ends}
-use Rattle.script_parts.proofs.PartSteps.{HasCome-same}
+use Rattle.script_text.specs.Parts.{CutsShort, Ends}
+use Rattle.script_text.proofs.PartSteps.{HasCome-same}
 use Rattle.program_batch.specs.Names.{requests_in}
 use Rattle.program_batch.specs.Runs.{Runs, Steps}
 use Rattle.program_batch.specs.Lists.{EndsList, HasComeTo, ListView, LosesStream, RunsStream, effects_of, list_state_of}

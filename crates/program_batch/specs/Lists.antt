@@ -1,7 +1,7 @@
 -- Runs over the names of a list, as its bytes come.
 use Rattle.std.specs.Prelude.{◌≡◌, ℕ, Bool, List, Option, Result, Ok, Err, OnOk}
 use Rattle.host_storage.specs.Files.{HostState}
-use Rattle.script_parts.specs.Parts.{CutsShort, Ends}
+use Rattle.script_text.specs.Parts.{CutsShort, Ends}
 use Rattle.program_batch.specs.Names.{kept_name, requests_in}
 use Rattle.program_batch.specs.Answers.{Effects, KeepsQuiet}
 use Rattle.program_batch.specs.Runs.{RunState, Runs, Steps, StopsIn, run_state_at}

@@ -5,6 +5,7 @@ use Rattle.host_storage.specs.Files.{HostState}
 use Rattle.host_storage.specs.Host.{Fetches, CountsDevice}
 use Rattle.host_storage.specs.declared.host.HostFault.{HostFault}
 use Rattle.host_storage.specs.declared.host.HostFault.TheVariants.{Missing, Device, TooLong, Memory}
+use Rattle.script_text.specs.Input.{input_limit}
 use Rattle.script_text.specs.Output.{Account, AppendsPart, Writes}
 use Rattle.program_console.specs.Outside.{account_at}
 use Rattle.program_console.specs.declared.console.Outputs.{Outputs}
@@ -16,10 +17,6 @@ use Rattle.program_batch.specs.declared.report.Verdict.{Verdict}
 use Rattle.script_text.specs.declared.output.WriteFault.{WriteFault}
 use Rattle.program_console.specs.declared.stream_fault.StreamFault.{StreamFault}
 use Rattle.program_console.specs.declared.stream_fault.StreamFault.TheVariants as faults
-
--- the most bytes of a file
-abbrev pub file_limit : ℕ
-file_limit = 16777216
 
 -- what a run has written so far, and the worst verdict
 pub record Reported : Type 0 where
@@ -58,7 +55,7 @@ given_by (Err (Memory error)) = None
 -- a file was fetched from the host, whose files stay as they were
 abbrev pub IsFetched : List ℕ → HostState → Result (List ℕ) HostFault → HostState → Type 0
 IsFetched name old answer new =
-    Fetches old.files name file_limit answer × (new.files ≡ old.files) × CountsDevice old.failures new.failures answer
+    Fetches old.files name input_limit answer × (new.files ≡ old.files) × CountsDevice old.failures new.failures answer
 
 -- what was read for a task: the bytes of a file, or None if it cannot be read; for a name that
 -- cannot be a file's the host is left alone

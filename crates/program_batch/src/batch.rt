@@ -13,12 +13,10 @@ use crate::report::{ReportBuffer, Verdict};
 use crate::task::FileTask;
 use host_storage::{Host, HostFault};
 use program_console::{Outputs, StreamFault};
+use script_text::input::INPUT_BYTES;
 use script_text::output::WriteFault;
 use std::alloc::Global;
 use std::io::Write;
-
-/// The most bytes of an image, a program or a text that are read from a file.
-pub const FILE_BYTES: usize = 16_777_216;
 
 /// The buffers of a run, which are used for one file after another, and its worst verdict so far.
 #[derive(Drop)]
@@ -108,7 +106,7 @@ impl Batch {
                 return self.serve_unread(shown, Some(reason), host, task);
             }
         };
-        match host.fill(name, FILE_BYTES, &mut self.bytes) {
+        match host.fill(name, INPUT_BYTES, &mut self.bytes) {
             Ok(()) => {
                 let bytes = Some(self.bytes.as_slice());
                 Ok(task.answer(name.as_bytes(), bytes, host, &mut self.buffer)?)

@@ -13,7 +13,7 @@ mod reason;
 mod report;
 mod task;
 
-pub use batch::{Batch, FILE_BYTES};
+pub use batch::Batch;
 pub use list_batch::ListBatch;
 pub use reason::{Reason, push_known_reason, reason_of, reason_unwritten};
 pub use report::{ReportBuffer, Verdict};

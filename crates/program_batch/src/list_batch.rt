@@ -13,9 +13,10 @@ use crate::report::Verdict;
 use crate::task::FileTask;
 use host_storage::Host;
 use program_console::{Outputs, StreamFault};
-use script_parts::{CutShort, PartHandler, read_parts};
 use script_text::input::InputStream;
 use script_text::output::OutputStream;
+use script_text::part_handler::PartHandler;
+use script_text::parts::{CutShort, read_parts};
 use std::io::{Read, Write};
 use std::ops::ControlFlow;
 

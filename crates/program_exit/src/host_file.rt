@@ -1,11 +1,11 @@
 //! The files of the host that jobs read.
-ghost use Rattle.program_batch.specs.Runs.{file_limit};
+ghost use Rattle.script_text.specs.Input.{input_limit};
 ghost use Rattle.host_storage.specs.Host.{fetched_bytes};
 ghost use Rattle.script_commands.specs.Act.{FetchesFile};
 
 use host_storage::{Host, HostFault};
-use program_batch::FILE_BYTES;
 use script_commands::host_file::fetch;
+use script_text::input::INPUT_BYTES;
 use std::alloc::Global;
 
 /// Returns the bytes of a host file that is an image, a program or a text: `TooLong` if it has more
@@ -13,8 +13,8 @@ use std::alloc::Global;
 pub fn fetch_file<H: Host>(alloc: Global, host: &mut H, name: &str) -> Result<Vec<u8>, HostFault>
     ensures { FetchesFile
         (H.state host.old)
-        name.now file_limit (fetched_bytes result)
+        name.now input_limit (fetched_bytes result)
         (H.state host.new) }
 {
-    fetch(alloc, host, name, FILE_BYTES)
+    fetch(alloc, host, name, INPUT_BYTES)
 }

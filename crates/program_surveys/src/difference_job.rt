@@ -7,8 +7,9 @@ use crate::whole_task::WholeTask;
 use cmd_diff::DifferenceReport;
 use host_storage::{Host, HostFault};
 use program_arguments::DiffForm;
-use program_batch::{Batch, FILE_BYTES, Reason, reason_of};
+use program_batch::{Batch, Reason, reason_of};
 use program_console::{Outputs, StreamFault};
+use script_text::input::INPUT_BYTES;
 use std::alloc::Global;
 use std::io::Write;
 
@@ -74,7 +75,7 @@ pub(crate) fn read_contents<H: Host>(
     ensures memory { IfErr result (λ fault. (fault ≡ StreamFault.Memory)
         × (H.state host.new ≡ H.state host.old)) }
 {
-    match host.fetch(alloc, name, FILE_BYTES) {
+    match host.fetch(alloc, name, INPUT_BYTES) {
         Ok(bytes) => Ok(Ok(bytes)),
         Err(HostFault::Memory(_)) => Err(StreamFault::Memory),
         Err(fault) => Ok(Err(reason_of(host, name, fault))),

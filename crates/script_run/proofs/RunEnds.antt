@@ -7,9 +7,8 @@ use Rattle.std.proofs.lemmas.Bool.{cases_Bool, false≢true}
 use Rattle.host_storage.specs.Files.{HostState}
 use Rattle.script_commands.specs.Act.{world_of}
 use Rattle.script_text.specs.HeldLine.{HoldsLine}
-use Rattle.script_text.specs.Input.{Reading}
-use Rattle.script_text.specs.Script.{script_limit}
-use Rattle.script_parts.specs.Parts.{Ends, HasCome}
+use Rattle.script_text.specs.Input.{Reading, input_limit}
+use Rattle.script_text.specs.Parts.{Ends, HasCome}
 use Rattle.script_run.specs.Transcript.{RunOptions, RunProgress, Line, Transcript, IsSilent}
 use Rattle.script_run.specs.Runner.{EndsStreams, ScriptState, first_progress, Ran, RanLines, RanRead, StoppedAt, options_of}
 use Rattle.script_run.specs.LineByLine.{EndsRun, HasRun, ended_line, lines_in, progress_of, state_of}
@@ -186,7 +185,7 @@ Ran-ended contents state first now reader left (Err fault) ends =
 
 -- reading failed, or passed a limit
 pub RanRead-by : {L W H : Type 0} (contents : W → Option (List ℕ)) (state : H → HostState) (first now : LineRunner L W H) (reader left : Option (List ℕ)) (consumed : List ℕ)
-    → Consumes reader left consumed → HasCome (HasRun contents state first now) 10 (take script_limit consumed)
+    → Consumes reader left consumed → HasCome (HasRun contents state first now) 10 (take input_limit consumed)
     → RanRead (options_of first.options) reader left (state_of contents state first) (state_of contents state now)
 RanRead-by contents state first now reader left consumed lost come =
     let after = progress_of now.tally (world_of (state now.host.now) now.session.now) in
@@ -195,7 +194,7 @@ RanRead-by contents state first now reader left consumed lost come =
       lost = lost;
       after = after;
       ran = subst (λ (l : List (List ℕ)). RanLines (options_of first.options) (state_of contents state first) (state_of contents state now) l after)
-          (sym (ended_lines-come (HasRun contents state first now) (take script_limit consumed) come)) come.here.ran;
+          (sym (ended_lines-come (HasRun contents state first now) (take input_limit consumed) come)) come.here.ran;
       open_run = come.here.open_run;
     }
 

@@ -7,9 +7,9 @@ use Rattle.std.specs.List.{onto_first}
 use Rattle.script_text.specs.RawLines.{ended_lines, is_ended, lines_of}
 use Rattle.script_text.proofs.LineCuts.{lines_of-end, lines_of-inside, lines_of-nil}
 use Rattle.script_text.proofs.OpenLines.{is_ended-open, is_ended-push}
-use Rattle.script_parts.specs.Parts.{HasCome, Lacks, parts_of}
-use Rattle.script_parts.proofs.Cuts.{first_part}
-use Rattle.script_parts.proofs.PartSteps.{parts_of-come}
+use Rattle.script_text.specs.Parts.{HasCome, Lacks, parts_of}
+use Rattle.script_text.proofs.Cuts.{first_part}
+use Rattle.script_text.proofs.PartSteps.{parts_of-come}
 use Rattle.script_run.specs.LineByLine.{ended_line, lines_in}
 
 -- a part that an LF ends

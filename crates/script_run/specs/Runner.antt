@@ -1,11 +1,10 @@
 -- The effect of running a script, however it ends.
 use Rattle.std.specs.Prelude.{◌≡◌, ℕ, List, ◌∷◌, ◌++◌, take, Bool, true, false, Option, IfSome, Result, Ok, Err}
 use Rattle.std.specs.Io.KnownBytes.{Appends, Consumes}
-use Rattle.script_text.specs.Input.{Reading, IsUnreadable}
+use Rattle.script_text.specs.Input.{Reading, IsUnreadable, input_limit}
 use Rattle.script_text.specs.RawLines.{lines_of, ended_lines}
 use Rattle.script_commands.specs.Act.{World}
 use Rattle.script_run.specs.Transcript.{RunOptions, RunProgress, Line, Transcript}
-use Rattle.script_text.specs.Script.{script_limit}
 use Rattle.script_run.specs.declared.runner.Outcome.{Outcome}
 use Rattle.script_run.specs.declared.runner.ShellFault.{ShellFault}
 use Rattle.script_run.specs.declared.runner.ShellFault.TheVariants.{Read, Write, Memory}
@@ -74,7 +73,7 @@ pub record RanRead (options : RunOptions) (reader left : Option (List ℕ)) (old
   pub consumed : List ℕ
   pub lost : Consumes reader left consumed
   pub after : RunProgress
-  pub ran : RanLines options old new (ended_lines (take script_limit consumed)) after
+  pub ran : RanLines options old new (ended_lines (take input_limit consumed)) after
   pub open_run : after.closed ≡ false
 
 -- writing failed at a line of the script

@@ -2,9 +2,8 @@
 ghost use Rattle.std.specs.Prelude.{◌≡◌, ◌≤◌, ◌<◌, ◌^◌, ◌+◌, [], true, false, ℕ, List, length, Some, Err, MatchResult, OnOk, OnErr};
 ghost use Rattle.std.specs.Io.KnownBytes.{Appends, Keeps};
 ghost use Rattle.script_text.specs.HeldLine.{HoldsText};
-ghost use Rattle.script_text.specs.Input.{IsUnread, reading_of};
+ghost use Rattle.script_text.specs.Input.{IsUnread, reading_of, input_limit};
 ghost use Rattle.script_text.specs.Output.{AppendsPart, FailsWith};
-ghost use Rattle.script_text.specs.Script.{script_limit};
 ghost use Rattle.d64_undo.specs.History.{present_image};
 ghost use Rattle.script_commands.specs.Act.{printed_bytes, world_of};
 ghost use Rattle.script_commands.specs.Response.{shown_answer};
@@ -17,10 +16,11 @@ use crate::run_options::{Refusals, RunOptions};
 use d64_undo::Session;
 use host_storage::Host;
 use script_commands::{Response, answer_line};
-use script_parts::{CutShort, PartHandler, cut_text, read_parts};
 use script_text::held_line::HeldLine;
 use script_text::input::InputStream;
 use script_text::output::{OutputStream, WriteFault};
+use script_text::part_handler::PartHandler;
+use script_text::parts::{CutShort, cut_text, read_parts};
 use script_text::status::Status;
 use std::alloc::{AllocError, Global};
 use std::io::{Read, Write};
@@ -210,7 +210,7 @@ impl<'n, 'l, L: Observer> ScriptRunner<'n, 'l, L> {
             result }
         ensures written { OnOk result (output.new.has_failed ≡ false) }
         ensures failed { result ≡ Err ShellFault.Write → output.new.has_failed ≡ true }
-        ensures long { result ≡ Err ShellFault.Read → script_limit < length text.now }
+        ensures long { result ≡ Err ShellFault.Read → input_limit < length text.now }
     {
         let ScriptRunner {
             alloc,
@@ -306,7 +306,7 @@ impl<'n, 'l, 'o, 'w, 'h, 's, L: Observer, W: Write, H: Host> LineRunner<
             (state_of W.contents H.state self.old) (state_of W.contents H.state self.new) result }
         ensures written { OnOk result (self.new.output.now.has_failed ≡ false) }
         ensures failed { result ≡ Err ShellFault.Write → self.new.output.now.has_failed ≡ true }
-        ensures long { result ≡ Err ShellFault.Read → script_limit < length text.now }
+        ensures long { result ≡ Err ShellFault.Read → input_limit < length text.now }
     {
         match cut_text(text, b'\n', self) {
             Ok(ended) => ended,
@@ -396,7 +396,6 @@ impl<'n, 'l, 'o, 'w, 'h, 's, L: Observer, W: Write, H: Host> PartHandler
         if self.line.is_empty() {
             return Ok(self.tally.outcome);
         }
-        self.line.end_with_script();
         match self.run_line() {
             Ok(()) => Ok(self.tally.outcome),
             Err(_) => Err(ShellFault::Write),

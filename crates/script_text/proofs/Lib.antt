@@ -7,3 +7,6 @@ pub mod Splitting
 pub mod TwoDigits
 pub mod WordRule
 pub mod OpenLines
+pub mod Cuts
+pub mod PartSteps
+pub mod InputReads

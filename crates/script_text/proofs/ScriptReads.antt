@@ -4,36 +4,37 @@ use Rattle.std.proofs.Math.Seq.{take-append-add}
 use Rattle.std.proofs.lemmas.Bool.{false≢true}
 use Rattle.std.specs.Io.KnownBytes.{Consumes, IsAtEnd}
 use Rattle.std.proofs.KnownBytes.{Consumes-trans}
-use Rattle.script_text.specs.Script.{IsReadFrom, script_limit}
+use Rattle.script_text.specs.Input.{input_limit}
+use Rattle.script_text.specs.Script.{IsReadFrom}
 use Rattle.script_text.specs.declared.script.Script.{Script}
 
 -- reading went to the end, within the limit
-pub IsReadFrom-to_its_end : (old new : Option (List ℕ)) (script : Script) (bytes : List ℕ) → script.bytes.items ≡ bytes → length bytes ≤ script_limit
+pub IsReadFrom-to_its_end : (old new : Option (List ℕ)) (script : Script) (bytes : List ℕ) → script.bytes.items ≡ bytes → length bytes ≤ input_limit
     → Consumes old new bytes → IsAtEnd new → IsReadFrom old new script
 IsReadFrom-to_its_end old new script bytes is fits lost end =
     record {
       consumed = bytes;
       lost = lost;
-      kept = is ∙ sym (take_all script_limit bytes fits);
+      kept = is ∙ sym (take_all input_limit bytes fits);
       ended = λ _. end;
       within = λ _. fits;
     }
 
 -- reading stopped, and what came fits
 pub IsReadFrom-cut_short : (old new : Option (List ℕ)) (script : Script) (bytes : List ℕ) → script.bytes.items ≡ bytes → script.whole ≡ false
-    → length bytes ≤ script_limit → Consumes old new bytes → IsReadFrom old new script
+    → length bytes ≤ input_limit → Consumes old new bytes → IsReadFrom old new script
 IsReadFrom-cut_short old new script bytes is part fits lost =
     record {
       consumed = bytes;
       lost = lost;
-      kept = is ∙ sym (take_all script_limit bytes fits);
+      kept = is ∙ sym (take_all input_limit bytes fits);
       ended = λ whole. absurd (false≢true (sym part ∙ whole));
       within = λ _. fits;
     }
 
 -- the last read passed the limit, and filled the script up to it
 pub IsReadFrom-filled : (old mid new : Option (List ℕ)) (script : Script) (bytes more filled : List ℕ) (room count least : ℕ) → script.whole ≡ false
-    → script.bytes.items ≡ filled → filled ≡ bytes ++ take least more → length bytes + room ≡ script_limit → room < count → least ≡ min count room
+    → script.bytes.items ≡ filled → filled ≡ bytes ++ take least more → length bytes + room ≡ input_limit → room < count → least ≡ min count room
     → Consumes old mid bytes → Consumes mid new (take count more) → IsReadFrom old new script
 IsReadFrom-filled old mid new script bytes more filled room count least part is_filled grown full over is before read =
     let same : least ≡ room = omega arith in
@@ -53,7 +54,7 @@ pub IsReadFrom-whole : (old new : Option (List ℕ)) (script : Script) → IsRea
 IsReadFrom-whole None new script read whole = tt
 IsReadFrom-whole (Some xs) None script read whole = absurd read.lost
 IsReadFrom-whole (Some xs) (Some ys) script read whole =
-    read.kept ∙ take_all script_limit read.consumed (read.within whole)
+    read.kept ∙ take_all input_limit read.consumed (read.within whole)
     ∙ sym (read.lost ∙ ap (λ l. read.consumed ++ l) (read.ended whole) ∙ append-nil read.consumed)
 
 -- any script is the first part of what the reader had
@@ -62,8 +63,8 @@ pub IsReadFrom-first : (old new : Option (List ℕ)) (script : Script) → IsRea
 IsReadFrom-first None new script read = tt
 IsReadFrom-first (Some xs) None script read = absurd read.lost
 IsReadFrom-first (Some xs) (Some ys) script read =
-    let late = drop script_limit read.consumed in (
+    let late = drop input_limit read.consumed in (
       late ++ ys,
-      ap (λ l. l ++ (late ++ ys)) read.kept ∙ sym (append_assoc (take script_limit read.consumed) late ys)
-          ∙ ap (λ l. l ++ ys) (take-append-drop script_limit read.consumed) ∙ sym read.lost,
+      ap (λ l. l ++ (late ++ ys)) read.kept ∙ sym (append_assoc (take input_limit read.consumed) late ys)
+          ∙ ap (λ l. l ++ ys) (take-append-drop input_limit read.consumed) ∙ sym read.lost,
     )

@@ -1,6 +1,5 @@
 -- The limits on reading an input, and when it can't be read to its end.
 use Rattle.std.specs.Prelude.{◌≡◌, ℕ, ◌<◌, ◌≤◌, Bool, true, false, ◌⊎◌}
-use Rattle.script_text.specs.Script.{script_limit}
 
 -- how far an input was read: the reads that were made, the bytes that they gave, and whether one of
 -- them failed
@@ -11,6 +10,10 @@ pub record Reading : Type 0 where
 
 abbrev pub reading_of : ℕ → ℕ → Bool → Reading
 reading_of reads came has_failed = record { reads = reads; came = came; has_failed = has_failed }
+
+-- the most bytes that are taken of an input, or of a file that the program reads
+abbrev pub input_limit : ℕ
+input_limit = 16777216
 
 -- the most reads that are made of an input, including the one that finds the end
 abbrev pub reads_limit : ℕ
@@ -26,9 +29,9 @@ IsUnread input = input ≡ reading_of 0 0 false
 
 -- one more read is allowed: no read has failed, and no limit is reached
 abbrev pub MayBeRead : Reading → Type 0
-MayBeRead input = (input.has_failed ≡ false) × (input.reads < reads_limit) × (input.came ≤ script_limit)
+MayBeRead input = (input.has_failed ≡ false) × (input.reads < reads_limit) × (input.came ≤ input_limit)
 
 -- the input can't be read to its end: a read failed, it gave more bytes than a script may have, or
 -- all reads that are allowed were made
 abbrev pub IsUnreadable : Reading → Type 0
-IsUnreadable input = (input.has_failed ≡ true) ⊎ ((script_limit < input.came) ⊎ (input.reads ≡ reads_limit))
+IsUnreadable input = (input.has_failed ≡ true) ⊎ ((input_limit < input.came) ⊎ (input.reads ≡ reads_limit))

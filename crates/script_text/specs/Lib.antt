@@ -2,6 +2,7 @@ pub mod Dump
 pub mod Number
 pub mod Input
 pub mod Output
+pub mod Parts
 pub mod RawLines
 pub mod Script
 pub mod Status

@@ -1,17 +1,14 @@
--- The limit of a script, and what its reader has left after it was read.
+-- What a whole input has, and what its reader has left after it was read.
 use Rattle.std.specs.Prelude.{◌≡◌, ℕ, Option, ◌≤◌, List, length, take, IsTrue}
 use Rattle.std.specs.Io.KnownBytes.{Consumes, IsAtEnd}
+use Rattle.script_text.specs.Input.{input_limit}
 use Rattle.script_text.specs.declared.script.Script.{Script}
-
--- the most bytes that a script has
-abbrev pub script_limit : ℕ
-script_limit = 16777216
 
 -- the script has the bytes that the reader gave, up to the limit, and is whole only if the reader
 -- has no more and gave no more than that
 pub record IsReadFrom (old new : Option (List ℕ)) (script : Script) : Type 0 where
   pub consumed : List ℕ
   pub lost : Consumes old new consumed
-  pub kept : script.bytes.items ≡ take script_limit consumed
+  pub kept : script.bytes.items ≡ take input_limit consumed
   pub ended : IsTrue script.whole → IsAtEnd new
-  pub within : IsTrue script.whole → length consumed ≤ script_limit
+  pub within : IsTrue script.whole → length consumed ≤ input_limit

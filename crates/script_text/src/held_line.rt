@@ -35,11 +35,13 @@ impl HeldLine {
         self.is_long = false;
     }
 
-    /// Whether nothing was read of the line.
+    /// Whether nothing was read of the line. If the script ends here, all that was read is the
+    /// line's text, also a CR at its end.
     pub fn is_empty(&self) -> bool
-        ensures { (before : List ℕ) → HoldsLine self.now before → result ≡ (length before == 0) }
+        ensures empty { (before : List ℕ) → HoldsLine self.now before → result ≡ (length before == 0) }
+        ensures text { (before : List ℕ) → HoldsLine self.now before → IsOpen before → HoldsText self.now before }
     {
-        self.bytes.is_empty() && !self.is_long
+        self.bytes.as_slice().is_empty() && !self.is_long
     }
 
     /// Appends the next bytes of the line.
@@ -58,13 +60,6 @@ impl HeldLine {
         if ends_with_carriage_return(self.bytes.as_slice()) {
             let _ = self.bytes.pop();
         }
-    }
-
-    /// Ends the line with the end of the script: all of it is text, also a CR at its end.
-    pub fn end_with_script(&self)
-        ensures { (before : List ℕ) → HoldsLine self.now before → IsOpen before → HoldsText self.now before }
-    {
-        let _fits = self.bytes.len() <= LINE_BYTES;
     }
 
     /// The text of the line, or None if it is too long.

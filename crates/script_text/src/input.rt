@@ -8,6 +8,16 @@ ghost use Rattle.script_text.specs.Input.{IsUnread, MayBeRead, read_limit, readi
 use crate::output::OutputStream;
 use std::io::{Read, Result, Write};
 
+/// The most bytes that are taken of an input, or of a file that the program reads: of a script, a
+/// list, an image, a program or a text.
+pub const INPUT_BYTES: usize = 16_777_216;
+
+/// The most reads that are made of an input, including the one that finds the end.
+pub(crate) const INPUT_READS: u32 = 1_000_000;
+
+/// The most bytes that one read asks for.
+pub(crate) const READ_BYTES: usize = 4096;
+
 /// A reader that counts its reads and the bytes that they gave, and knows whether one of them
 /// failed.
 #[derive(Drop)]

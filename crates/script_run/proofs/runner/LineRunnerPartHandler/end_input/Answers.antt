@@ -8,7 +8,7 @@ returns-then-is_empty g c = λ first parts last come is_open. record {
   keeps = KeepsRun-trans first _ _ come.keeps record { options = refl; observer = refl; output = refl; writer = refl; host = refl; session = refl };
   ran = (
     _,
-    RanLines-whole (options_of first.options) _ _ parts last _ come.ran (has_none last (sym (c.is_empty.ensures last come.held) ∙ c.if-is_empty.true)),
+    RanLines-whole (options_of first.options) _ _ parts last _ come.ran (has_none last (sym (c.is_empty.ensures.empty last come.held) ∙ c.if-is_empty.true)),
     refl,
     refl,
     come.unfailed,
@@ -17,8 +17,8 @@ returns-then-is_empty g c = λ first parts last come is_open. record {
 
 pub returns-in-Ok : goal.returns-in-Ok
 returns-in-Ok g c = λ first parts last come is_open.
-    let some = has_some last (sym (c.is_empty.ensures last come.held) ∙ c.if-is_empty.false) in
-    let says = c.end_with_script.ensures last come.held is_open in
+    let some = has_some last (sym (c.is_empty.ensures.empty last come.held) ∙ c.if-is_empty.false) in
+    let says = c.is_empty.ensures.text last come.held is_open in
     record {
       keeps = KeepsRun-line first c.args.self.now c.run_line.new.self _ c.args.self.now.line c.run_line.new.self.line refl come.keeps c.run_line.ensures.kept;
       ran = (
@@ -32,8 +32,8 @@ returns-in-Ok g c = λ first parts last come is_open.
 
 pub returns-in-Err : goal.returns-in-Err
 returns-in-Err g c = λ first parts last come is_open.
-    let some = has_some last (sym (c.is_empty.ensures last come.held) ∙ c.if-is_empty.false) in
-    let says = c.end_with_script.ensures last come.held is_open in
+    let some = has_some last (sym (c.is_empty.ensures.empty last come.held) ∙ c.if-is_empty.false) in
+    let says = c.is_empty.ensures.text last come.held is_open in
     record {
       keeps = KeepsRun-line first c.args.self.now c.run_line.new.self _ c.args.self.now.line c.run_line.new.self.line refl come.keeps c.run_line.ensures.kept;
       ran = (

@@ -1,9 +1,9 @@
 //! `PartHandler`: what is done with the parts of an input.
 ghost use Rattle.std.specs.Prelude.{◌≡◌, ◌≤◌, ◌<◌, ◌+◌, ◌^◌, ℕ, List, [], ◌∷◌, ◌++◌, true};
 ghost use Rattle.std.specs.ControlFlow.{MatchControlFlow};
-ghost use Rattle.script_parts.specs.Parts.{Lacks};
+ghost use Rattle.script_text.specs.Parts.{Lacks};
 
-use script_text::output::OutputStream;
+use crate::output::OutputStream;
 use std::io::Write;
 use std::ops::ControlFlow;
 

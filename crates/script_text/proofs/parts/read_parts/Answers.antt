@@ -2,11 +2,11 @@ use Rattle.std.proofs.Common.{[], ◌++◌, take, drop, sym, subst, append-nil, 
 use Rattle.std.proofs.KnownBytes.{Consumes-kept, Consumes-trans}
 use Rattle.std.proofs.lemmas.List.{length-append, length-take-le}
 use Rattle.std.specs.Io.KnownBytes.{Consumes}
-use Rattle.script_text.specs.Script.{script_limit}
-use Rattle.script_parts.specs.Parts.{Lacks}
-use Rattle.script_parts.proofs.PartSteps.{HasCome-same, ends_at_end, ends_before_read}
-use Rattle.script_parts.proofs.InputReads.{Consumes-fits, Consumes-none, Consumes-read, CutsShort-by, Ends-after, Ends-whole, length-read, take_limit}
-use Rattle.script_parts.proofs.parts.read_parts.Goals as goal
+use Rattle.script_text.specs.Input.{input_limit}
+use Rattle.script_text.specs.Parts.{Lacks}
+use Rattle.script_text.proofs.PartSteps.{HasCome-same, ends_at_end, ends_before_read}
+use Rattle.script_text.proofs.InputReads.{Consumes-fits, Consumes-none, Consumes-read, CutsShort-by, Ends-after, Ends-whole, length-read, take_limit}
+use Rattle.script_text.proofs.parts.read_parts.Goals as goal
 
 pub returns-in-Break-clause-ended : goal.returns-in-Break-clause-ended
 returns-in-Break-clause-ended g c =
@@ -33,7 +33,7 @@ returns-in-Err-clause-ended g c =
     let i = c.loop.invariant in
     let come = HasCome-same _ _ c.args.separator i.bytes i.came (λ parts begun here. (c.in_default.ensures.came c.args.handler.now parts begun c.requires.delivered here).0) in
     CutsShort-by _ c.args.separator (g.R.Read.remaining c.args.input.now.reader.now) (g.R.Read.remaining c.read_after.new.self.reader.now) _ i.bytes i.bytes
-    (Consumes-kept _ _ _ _ i.lost c.in-Err.ensures.bytes) (inl c.in-Err.ensures.failed) (take_all script_limit i.bytes (omega (arith, i.within))) come
+    (Consumes-kept _ _ _ _ i.lost c.in-Err.ensures.bytes) (inl c.in-Err.ensures.failed) (take_all input_limit i.bytes (omega (arith, i.within))) come
 
 pub returns-in-Break-take_piece-clause-ended : goal.returns-in-Break-take_piece-clause-ended
 returns-in-Break-take_piece-clause-ended g c =
@@ -83,4 +83,4 @@ pub returns-clause-ended : goal.returns-clause-ended
 returns-clause-ended g c =
     let i = c.loop.invariant in
     CutsShort-by _ c.args.separator (g.R.Read.remaining c.args.input.now.reader.now) (g.R.Read.remaining c.loop.input.reader.now) _ i.bytes i.bytes
-    i.lost (inr (omega (arith, i.each, c.loop-test.false))) (take_all script_limit i.bytes (omega (arith, i.within))) i.came
+    i.lost (inr (omega (arith, i.each, c.loop-test.false))) (take_all input_limit i.bytes (omega (arith, i.within))) i.came

@@ -2,8 +2,7 @@
 use Rattle.std.specs.Prelude.{◌≡◌, ◌≤◌, ℕ, Bool, true, false, List, ◌++◌, ◌⊎◌, length, take, Option, IfSome, ◌==◌}
 use Rattle.std.specs.List.{list_any, slice_split}
 use Rattle.std.specs.Io.KnownBytes.{Consumes}
-use Rattle.script_text.specs.Input.{reads_limit}
-use Rattle.script_text.specs.Script.{script_limit}
+use Rattle.script_text.specs.Input.{reads_limit, input_limit}
 
 -- the parts of an input between its separators; the last one is what comes after the last
 -- separator, and may be empty
@@ -40,4 +39,4 @@ pub record CutsShort (come : List (List ℕ) → List ℕ → Type 0) (separator
   pub consumed : List ℕ
   pub lost : Consumes reader left consumed
   pub cause : IsCutShort has_failed (length consumed)
-  pub has_come : HasCome come separator (take script_limit consumed)
+  pub has_come : HasCome come separator (take input_limit consumed)

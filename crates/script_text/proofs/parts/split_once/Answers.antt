@@ -2,8 +2,8 @@ use Rattle.std.proofs.Common.{◌≡◌, ◌+◌, None, Some, sym, ap, ◌∙◌
 use Rattle.std.proofs.lemmas.List.{take_rest}
 use Rattle.std.proofs.lemmas.Iterator.{YieldsList-from_slice}
 use Rattle.std.proofs.lemmas.Iterator.Search.{position_from_yields_List}
-use Rattle.script_parts.proofs.Cuts.{found_at, found_none}
-use Rattle.script_parts.proofs.parts.split_once.Goals as goal
+use Rattle.script_text.proofs.Cuts.{found_at, found_none}
+use Rattle.script_text.proofs.parts.split_once.Goals as goal
 
 pub returns-in_err-place : goal.returns-in_err-place
 returns-in_err-place c =

@@ -1,15 +1,15 @@
 use Rattle.std.proofs.Common.{◌≡◌, ◌≤◌, ◌+◌, false, ℕ, List, length}
 use Rattle.std.specs.Io.KnownBytes.{Consumes}
-use Rattle.script_text.specs.Script.{script_limit}
-use Rattle.script_parts.specs.Parts.{HasCome}
-use Rattle.script_parts.proofs.parts.read_parts.Given as goal
+use Rattle.script_text.specs.Input.{input_limit}
+use Rattle.script_text.specs.Parts.{HasCome}
+use Rattle.script_text.proofs.parts.read_parts.Given as goal
 
 -- the bytes so far are all that the reader lost, and the run has come through them
 abbrev pub invariant-loop : goal.invariant-loop
 invariant-loop g l = record {
   bytes : List ℕ;
   lost : Consumes (g.R.Read.remaining l.initial.input.reader.now) (g.R.Read.remaining l.input.reader.now) bytes;
-  within : length bytes + l.room ≡ script_limit;
+  within : length bytes + l.room ≡ input_limit;
   each : l.counter ≤ length bytes;
   came : HasCome (g.P.PartHandler.has_come l.initial.handler l.handler) l.separator bytes;
   few : g.P.PartHandler.count l.handler ≤ length bytes;

@@ -1,13 +1,11 @@
 //! Reading an input and cutting it into parts.
 ghost use Rattle.std.specs.Prelude.{◌≡◌, ◌≤◌, ◌<◌, ◌+◌, ◌^◌, ℕ, List, [], ◌∷◌, ◌++◌, length, take, true, false, Some, MatchOption, MatchResult, OnErr};
 ghost use Rattle.std.specs.ControlFlow.{MatchControlFlow};
-ghost use Rattle.script_text.specs.Input.{IsUnread, IsUnreadable, reading_of};
-ghost use Rattle.script_text.specs.Script.{script_limit};
-ghost use Rattle.script_parts.specs.Parts.{CutsShort, Ends, HasCome, Lacks, parts_of};
+ghost use Rattle.script_text.specs.Input.{IsUnread, IsUnreadable, reading_of, input_limit};
+ghost use Rattle.script_text.specs.Parts.{CutsShort, Ends, HasCome, Lacks, parts_of};
 
+use crate::input::{INPUT_BYTES, INPUT_READS, InputStream, READ_BYTES};
 use crate::part_handler::PartHandler;
-use script_text::input::InputStream;
-use script_text::script::{READ_BYTES, SCRIPT_BYTES, SCRIPT_READS};
 use std::io::Read;
 use std::ops::ControlFlow;
 use thiserror::Error;
@@ -39,9 +37,9 @@ pub fn read_parts<R: Read, P: PartHandler>(
         (λ end. Ends (λ parts. P.has_ended handler.old handler.new parts end) separator (R.remaining input.old.reader.now))
         (λ _. CutsShort (P.has_come handler.old handler.new) separator (R.remaining input.old.reader.now) (R.remaining input.new.reader.now) input.new.has_failed) }
 {
-    let mut room = SCRIPT_BYTES;
+    let mut room = INPUT_BYTES;
     let mut buffer = [0; READ_BYTES];
-    for _ in 0..SCRIPT_READS {
+    for _ in 0..INPUT_READS {
         if let ControlFlow::Break(end) = handler.prepare() {
             return Ok(end);
         }
@@ -71,16 +69,16 @@ pub fn cut_text<P: PartHandler>(
     requires separator { P.separator handler.old ≡ separator }
     requires begun { P.has_come handler.old handler.old [] [] }
     requires few { P.count handler.old ≡ 0 }
-    ensures long { OnErr result (script_limit < length text.now) }
+    ensures long { OnErr result (input_limit < length text.now) }
     ensures ended { MatchResult result
         (λ end. P.has_ended handler.old handler.new (parts_of separator text.now) end)
-        (λ _. HasCome (P.has_come handler.old handler.new) separator (take script_limit text.now)) }
+        (λ _. HasCome (P.has_come handler.old handler.new) separator (take input_limit text.now)) }
 {
-    let piece = &text[..text.len().min(SCRIPT_BYTES)];
+    let piece = &text[..text.len().min(INPUT_BYTES)];
     if let ControlFlow::Break(end) = take_piece(handler, separator, piece) {
         return Ok(end);
     }
-    if text.len() > SCRIPT_BYTES {
+    if text.len() > INPUT_BYTES {
         return Err(CutShort);
     }
     Ok(handler.end_input())

@@ -1,7 +1,7 @@
 -- How far a run has come in its input, step by step.
 use Rattle.std.proofs.Common.{◌≡◌, ℕ, List, [], ◌∷◌, ◌++◌, refl, sym, ap, ◌∙◌, subst, append_assoc, append-nil}
-use Rattle.script_parts.specs.Parts.{HasCome, Lacks, parts_of}
-use Rattle.script_parts.proofs.Cuts.{Lacks-append, first_part, parts_of-ended, parts_of-open}
+use Rattle.script_text.specs.Parts.{HasCome, Lacks, parts_of}
+use Rattle.script_text.proofs.Cuts.{Lacks-append, first_part, parts_of-ended, parts_of-open}
 
 -- no bytes
 pub HasCome-none : (come : List (List ℕ) → List ℕ → Type 0) (separator : ℕ) → come [] [] → HasCome come separator []

@@ -1,8 +1,8 @@
 use Rattle.std.proofs.Common.{◌≡◌, ℕ, ◌<◌, ◌≤◌, List, [], take, drop, length, min, ap, sym, subst, take-append-drop, take_all, arith}
-use Rattle.script_text.specs.Script.{script_limit}
-use Rattle.script_parts.specs.Parts.{HasCome, Lacks, parts_of}
-use Rattle.script_parts.proofs.PartSteps.{HasCome-none, ends_at_end}
-use Rattle.script_parts.proofs.parts.cut_text.Goals as goal
+use Rattle.script_text.specs.Input.{input_limit}
+use Rattle.script_text.specs.Parts.{HasCome, Lacks, parts_of}
+use Rattle.script_text.proofs.PartSteps.{HasCome-none, ends_at_end}
+use Rattle.script_text.proofs.parts.cut_text.Goals as goal
 
 pub returns-in-Break-clause-ended : goal.returns-in-Break-clause-ended
 returns-in-Break-clause-ended g c =
@@ -11,23 +11,23 @@ returns-in-Break-clause-ended g c =
     (c.in-Break.ensures.came c.args.handler.now [] c.requires.separator (HasCome-none _ _ c.requires.begun) (drop c.min.result text))
 
 -- the part within the limit of a text that is longer
-within_limit : (text : List ℕ) (least : ℕ) → least ≡ min (length text) script_limit → script_limit < length text → take least text ≡ take script_limit text
-within_limit text least is over = let same : least ≡ script_limit = omega (arith, is, over) in ap (λ n. take n text) same
+within_limit : (text : List ℕ) (least : ℕ) → least ≡ min (length text) input_limit → input_limit < length text → take least text ≡ take input_limit text
+within_limit text least is over = let same : least ≡ input_limit = omega (arith, is, over) in ap (λ n. take n text) same
 
-pub returns-then-text-gt-SCRIPT_BYTES-clause-ended : goal.returns-then-text-gt-SCRIPT_BYTES-clause-ended
-returns-then-text-gt-SCRIPT_BYTES-clause-ended g c =
+pub returns-then-text-gt-INPUT_BYTES-clause-ended : goal.returns-then-text-gt-INPUT_BYTES-clause-ended
+returns-then-text-gt-INPUT_BYTES-clause-ended g c =
     let text = c.args.text.now in
-    subst (HasCome (g.P.PartHandler.has_come c.args.handler.now c.take_piece.new.handler) c.args.separator) (within_limit text c.min.result c.min.ensures c.if-text-gt-SCRIPT_BYTES.true)
+    subst (HasCome (g.P.PartHandler.has_come c.args.handler.now c.take_piece.new.handler) c.args.separator) (within_limit text c.min.result c.min.ensures c.if-text-gt-INPUT_BYTES.true)
     (c.in_default.ensures.came c.args.handler.now [] c.requires.separator (HasCome-none _ _ c.requires.begun))
 
 -- a text within the limit is taken whole
-whole : (text : List ℕ) (least : ℕ) → least ≡ min (length text) script_limit → length text ≤ script_limit → take least text ≡ text
+whole : (text : List ℕ) (least : ℕ) → least ≡ min (length text) input_limit → length text ≤ input_limit → take least text ≡ text
 whole text least is fits = take_all least text (omega (arith, is, fits))
 
 pub returns-clause-ended : goal.returns-clause-ended
 returns-clause-ended g c =
     let text = c.args.text.now in
-    let come = subst (HasCome (g.P.PartHandler.has_come c.args.handler.now c.take_piece.new.handler) c.args.separator) (whole text c.min.result c.min.ensures (omega (arith, c.if-text-gt-SCRIPT_BYTES.false)))
+    let come = subst (HasCome (g.P.PartHandler.has_come c.args.handler.now c.take_piece.new.handler) c.args.separator) (whole text c.min.result c.min.ensures (omega (arith, c.if-text-gt-INPUT_BYTES.false)))
     (c.in_default.ensures.came c.args.handler.now [] c.requires.separator (HasCome-none _ _ c.requires.begun)) in
     ends_at_end (g.P.PartHandler.has_come c.args.handler.now c.take_piece.new.handler) (λ parts. g.P.PartHandler.has_ended c.args.handler.now c.end_input.new.self parts c.end_input.result)
     c.args.separator text come

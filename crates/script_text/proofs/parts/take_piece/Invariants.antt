@@ -1,6 +1,6 @@
 use Rattle.std.proofs.Common.{◌≡◌, ◌≤◌, ◌+◌, ℕ, List, ◌++◌, length}
-use Rattle.script_parts.specs.Parts.{HasCome}
-use Rattle.script_parts.proofs.parts.take_piece.Given as goal
+use Rattle.script_text.specs.Parts.{HasCome}
+use Rattle.script_text.proofs.parts.take_piece.Given as goal
 
 -- a first part of the piece has come
 abbrev pub invariant-loop-part : goal.invariant-loop-part

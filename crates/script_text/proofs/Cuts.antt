@@ -7,7 +7,7 @@ use Rattle.std.proofs.lemmas.List.Folds.{list_any_none, list_any-append}
 use Rattle.std.proofs.lemmas.List.Sums.{fails_before_first, passes_at_first, split_at_first}
 use Rattle.std.proofs.lemmas.List.Splits.{slice_split-cons_yes, slice_split-cons_no}
 use Rattle.std.proofs.lemmas.Grind.{common_steps}
-use Rattle.script_parts.specs.Parts.{Lacks, parts_of}
+use Rattle.script_text.specs.Parts.{Lacks, parts_of}
 
 pub Lacks-append : (separator : ℕ) (front back : List ℕ) → Lacks separator front → Lacks separator back → Lacks separator (front ++ back)
 Lacks-append separator front back a b =

@@ -4,8 +4,8 @@ use Rattle.std.specs.Io.KnownBytes.{Consumes, IsAtEnd}
 use Rattle.std.proofs.KnownBytes.{Consumes-trans, Consumes-whole}
 use Rattle.std.proofs.Math.Seq.{take-append-add}
 use Rattle.std.proofs.lemmas.List.{length-take}
-use Rattle.script_text.specs.Script.{script_limit}
-use Rattle.script_parts.specs.Parts.{CutsShort, Ends, HasCome, IsCutShort, parts_of}
+use Rattle.script_text.specs.Input.{input_limit}
+use Rattle.script_text.specs.Parts.{CutsShort, Ends, HasCome, IsCutShort, parts_of}
 
 -- a run that ended after these bytes, whatever comes next
 pub Ends-after : (ended : List (List ℕ) → Type 0) (separator : ℕ) (reader left : Option (List ℕ)) (bytes over : List ℕ) → Consumes reader left (bytes ++ over)
@@ -38,8 +38,8 @@ Consumes-read a b c bytes more count least room before read is =
     (Consumes-trans a b c bytes (take count more) before read)
 
 -- a read past the limit fills the input up to it
-pub take_limit : (bytes more : List ℕ) (count least room : ℕ) → length bytes + room ≡ script_limit → room < count → least ≡ min count room
-    → take script_limit (bytes ++ take count more) ≡ bytes ++ take least more
+pub take_limit : (bytes more : List ℕ) (count least room : ℕ) → length bytes + room ≡ input_limit → room < count → least ≡ min count room
+    → take input_limit (bytes ++ take count more) ≡ bytes ++ take least more
 take_limit bytes more count least room full over is =
     let same : room ≡ least = omega (arith, over, is) in
     ap (λ n. take n (bytes ++ take count more)) (sym full) ∙ take-append-add bytes (take count more) room
@@ -57,7 +57,7 @@ length-read bytes more count least room held is = omega (arith, held, is, length
 
 -- an input that cannot be read to its end
 pub CutsShort-by : (come : List (List ℕ) → List ℕ → Type 0) (separator : ℕ) (reader left : Option (List ℕ)) (has_failed : Bool) (bytes consumed : List ℕ)
-    → Consumes reader left consumed → IsCutShort has_failed (length consumed) → take script_limit consumed ≡ bytes → HasCome come separator bytes
+    → Consumes reader left consumed → IsCutShort has_failed (length consumed) → take input_limit consumed ≡ bytes → HasCome come separator bytes
     → CutsShort come separator reader left has_failed
 CutsShort-by come separator reader left has_failed bytes consumed lost cause kept has_come =
     record { consumed = consumed; lost = lost; cause = cause; has_come = subst (HasCome come separator) (sym kept) has_come }

@@ -1,8 +1,8 @@
 use Rattle.std.proofs.Common.{◌≡◌, [], ◌∷◌, ◌++◌, length, ap, sym, ◌∙◌, subst, append_assoc, append-nil, length-append, arith, rules}
 use Rattle.std.proofs.lemmas.List.{nil_from_length}
-use Rattle.script_parts.specs.Parts.{HasCome, Lacks, parts_of}
-use Rattle.script_parts.proofs.PartSteps.{HasCome-end, HasCome-push, ends_at_part, past_separator, piece_is, up_to_separator}
-use Rattle.script_parts.proofs.parts.take_piece.Goals as goal
+use Rattle.script_text.specs.Parts.{HasCome, Lacks, parts_of}
+use Rattle.script_text.proofs.PartSteps.{HasCome-end, HasCome-push, ends_at_part, past_separator, piece_is, up_to_separator}
+use Rattle.script_text.proofs.parts.take_piece.Goals as goal
 
 pub returns-in-Break-clause-came : goal.returns-in-Break-clause-came
 returns-in-Break-clause-came g c = λ first before same come more.
