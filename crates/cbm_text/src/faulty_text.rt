@@ -11,7 +11,7 @@ use script_text::raw_lines::{self, RawLines};
 use std::alloc::{AllocError, Global};
 
 /// A faulty line of a BASIC text.
-#[derive(Clone, Copy, Debug)]
+#[derive(Clone, Copy)]
 pub struct FaultyLine<'t> {
     /// Its first fault, in the order of `BasicFault`.
     pub fault: BasicFault,
@@ -21,7 +21,7 @@ pub struct FaultyLine<'t> {
 }
 
 /// The first faulty lines of a BASIC text, and how many faulty lines it has.
-#[derive(Debug, Drop)]
+#[derive(Drop)]
 pub struct FaultyLines<'t> {
     pub lines: Vec<FaultyLine<'t>>,
     pub count: usize,

@@ -10,7 +10,7 @@ const DATA: u8 = 0x83;
 const REM: u8 = 0x8f;
 
 /// How a place of a line is read, by what comes before it.
-#[derive(Clone, Copy, Debug, PartialEq, Eq)]
+#[derive(Clone, Copy, PartialEq, Eq)]
 pub(crate) enum Mode {
     /// Keywords are tokens here.
     Free,

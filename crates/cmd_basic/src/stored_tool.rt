@@ -26,7 +26,7 @@ use std::alloc::{AllocError, Global};
 use std::io::{Read, Write};
 
 /// A tool whose result goes to a host file.
-#[derive(Clone, Copy, Debug)]
+#[derive(Clone, Copy)]
 pub(crate) struct StoredTool<'n> {
     pub(crate) tool: Tool,
     /// The host file that it works on; without one, it is the input.

@@ -20,7 +20,7 @@ use std::alloc::Global;
 use std::io::{Read, Write};
 
 /// What the arguments ask of a tool.
-#[derive(Clone, Copy, Debug)]
+#[derive(Clone, Copy)]
 pub struct ToolJob<'n> {
     pub tool: Tool,
     /// The host file that it works on; without one, it works on the input.

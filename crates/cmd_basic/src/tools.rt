@@ -15,7 +15,7 @@ use std::io::{Read, Write};
 use thiserror::Error;
 
 /// A tool.
-#[derive(Clone, Copy, Debug, PartialEq, Eq)]
+#[derive(Clone, Copy, PartialEq, Eq)]
 pub enum Tool {
     /// Lists a BASIC program file as text.
     Petcat,

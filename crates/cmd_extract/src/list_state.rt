@@ -1,7 +1,7 @@
 //! How far the list of an image's files is written.
 
 /// How far the list of an image's files is written on the host.
-#[derive(Clone, Copy, Debug, PartialEq, Eq)]
+#[derive(Clone, Copy, PartialEq, Eq)]
 pub(crate) enum ListState {
     /// It is not there yet.
     New,

@@ -7,7 +7,7 @@ use d64_leftovers::Selection;
 use program_arguments::{Format, Leftovers};
 
 /// What is printed of the files on dumps.
-#[derive(Clone, Copy, Debug, PartialEq, Eq)]
+#[derive(Clone, Copy, PartialEq, Eq)]
 pub struct Form {
     pub format: Format,
     /// What is left over on the dumps and is printed too.

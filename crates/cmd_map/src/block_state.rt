@@ -9,7 +9,7 @@ use d64_map::is_free;
 use d64_survey::{Inspection, Owner, code_of, is_read_error};
 
 /// What a map shows of a block.
-#[derive(Clone, Copy, Debug, PartialEq, Eq)]
+#[derive(Clone, Copy, PartialEq, Eq)]
 pub enum BlockState {
     /// The map marks it free, and nothing owns it.
     Free,

@@ -13,7 +13,7 @@ use std::alloc::AllocError;
 const FILE_COLOURS: usize = 16;
 
 /// The colour of a block.
-#[derive(Clone, Copy, Debug, PartialEq, Eq)]
+#[derive(Clone, Copy, PartialEq, Eq)]
 pub(crate) enum Colour {
     Free,
     Unowned,

@@ -11,7 +11,7 @@ use d64_image::BlockNo;
 use d64_survey::{Owner, Survey};
 
 /// Blocks that have the same first owner, or no owner.
-#[derive(Clone, Copy, Debug, PartialEq, Eq)]
+#[derive(Clone, Copy, PartialEq, Eq)]
 pub(crate) enum Region {
     Free,
     Unowned,

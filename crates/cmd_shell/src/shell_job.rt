@@ -25,7 +25,7 @@ use std::io::{Read, Write};
 const SESSION_BYTES: u32 = 67_108_864;
 
 /// What the arguments ask of the shell.
-#[derive(Clone, Copy, Debug)]
+#[derive(Clone, Copy)]
 pub struct ShellJob<'n> {
     /// The image file on which the script runs, and to which `save` stores by default.
     pub image: Option<&'n str>,
@@ -125,7 +125,7 @@ fn text_of_lines(alloc: Global, lines: &[String]) -> Result<Vec<u8>, AllocError>
 }
 
 /// A script, and how it is run.
-#[derive(Clone, Copy, Debug)]
+#[derive(Clone, Copy)]
 struct GivenScript<'n> {
     alloc: Global,
     /// Its text; without one, the script is the input.

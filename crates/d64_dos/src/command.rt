@@ -21,7 +21,7 @@ use d64_files::{Kind, Name, Pattern};
 use d64_image::{BLOCK_BYTES, BlockNo, Image, Patch, known_bytes};
 
 /// A change of an image.
-#[derive(Debug, Drop)]
+#[derive(Drop)]
 pub enum Command {
     /// Makes an empty disk with this name and id (1541 User's Guide, "New"). Nothing of the image
     /// before is kept.

@@ -9,7 +9,7 @@ use d64_image::Image;
 use std::alloc::Global;
 
 /// A file that was read.
-#[derive(Debug, Drop)]
+#[derive(Drop)]
 pub struct ReadBack {
     /// The name, up to the first $A0 of its field: at most 16 bytes of PETSCII.
     pub name: Vec<u8>,

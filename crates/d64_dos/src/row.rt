@@ -6,7 +6,7 @@ use d64_files::{Entry, Kind, Slots};
 use std::alloc::{AllocError, Global};
 
 /// What a directory lists of a file.
-#[derive(Debug, Drop)]
+#[derive(Drop)]
 pub struct Row {
     /// The size in blocks of 254 bytes of data, as the entry has it.
     pub blocks: u16,
@@ -21,7 +21,7 @@ pub struct Row {
 }
 
 /// What a directory lists (1541 User's Guide).
-#[derive(Debug, Drop)]
+#[derive(Drop)]
 pub struct Listing {
     /// The disk's name, up to the first $A0 of its field: at most 16 bytes of PETSCII.
     pub name: Vec<u8>,

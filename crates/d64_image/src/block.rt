@@ -102,7 +102,7 @@ impl Model for BlockNo {
 }
 
 /// The blocks from one place up to another, ascending.
-#[derive(Clone, Debug, Drop)]
+#[derive(Clone, Drop)]
 pub struct Blocks {
     /// The place of the next block.
     next: u16,

@@ -17,7 +17,7 @@ const WORD_BITS: usize = 32;
 const WORDS: usize = BLOCKS / WORD_BITS;
 
 /// A set of blocks. It needs no memory of its own.
-#[derive(Clone, Copy, Debug)]
+#[derive(Clone, Copy)]
 pub struct BlockSet {
     /// Which blocks are members: each word has the bits of 32 blocks, the lowest for the first of
     /// them.

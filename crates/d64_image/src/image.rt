@@ -33,7 +33,7 @@ pub enum ImageFault {
 
 /// The content of a disk: its blocks of 256 bytes, 683 on 35 tracks or 768 on 40, in one buffer. It
 /// is written through a `Patch`.
-#[derive(Debug, Drop)]
+#[derive(Drop)]
 pub struct Image {
     sectors: Vec<[u8; BLOCK_BYTES]>,
 }

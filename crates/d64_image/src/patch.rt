@@ -16,7 +16,7 @@ use std::mem;
 /// A change that is written through a patch can be undone: putting the patch back gives the image
 /// from before. A patch that is swapped with its image keeps the bytes from after the change, so
 /// that a second swap redoes it.
-#[derive(Debug, Drop)]
+#[derive(Drop)]
 pub struct Patch {
     kept: Vec<(BlockNo, [u8; BLOCK_BYTES])>,
 }

@@ -13,7 +13,7 @@ pub struct Content {
 }
 
 /// The row of a used slot of the directory's way and its file.
-#[derive(Debug, Drop)]
+#[derive(Drop)]
 pub struct FileRow {
     /// The number of the slot, from 0 along the directory's way.
     pub slot: usize,

@@ -7,7 +7,7 @@ use d64_scratched::{LOSSES, Loss};
 use std::marker::Model;
 
 /// The row of a scratched slot of the directory's way, and of the file that was deleted there.
-#[derive(Debug, Drop)]
+#[derive(Drop)]
 pub struct DeletedRow {
     /// The number of the slot, from 0 along the directory's way.
     pub slot: usize,

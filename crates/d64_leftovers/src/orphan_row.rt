@@ -7,7 +7,7 @@ use std::marker::Model;
 
 /// What a slot of an old directory says of an orphan. The slot has the track and the sector of the
 /// orphan's first block.
-#[derive(Clone, Copy, Debug, PartialEq, Eq)]
+#[derive(Clone, Copy, PartialEq, Eq)]
 pub struct OldSlot {
     /// The field of the name.
     pub field: [u8; 16],
@@ -20,7 +20,7 @@ pub struct OldSlot {
 }
 
 /// The row of a chain of blocks that no slot leads to.
-#[derive(Debug, Drop)]
+#[derive(Drop)]
 pub struct OrphanRow {
     /// Its first block.
     pub first: BlockNo,

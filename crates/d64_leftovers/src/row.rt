@@ -7,7 +7,7 @@ use crate::orphan_row::OrphanRow;
 use d64_inventory::FileRow;
 
 /// The row of a file, or of what is left of one.
-#[derive(Debug, Drop)]
+#[derive(Drop)]
 pub enum ListedRow {
     /// The row of the file of a used slot.
     File(FileRow),

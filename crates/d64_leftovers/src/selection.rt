@@ -1,7 +1,7 @@
 //! Which rows of a dump are wanted.
 
 /// Which rows of a dump are wanted.
-#[derive(Clone, Copy, Debug, PartialEq, Eq)]
+#[derive(Clone, Copy, PartialEq, Eq)]
 pub struct Selection {
     /// Whether those of the files of used slots are wanted.
     pub files: bool,

@@ -9,7 +9,7 @@ use d64_image::BlockNo;
 use d64_survey::{Dump, code_of};
 
 /// What a merge makes of a block.
-#[derive(Clone, Copy, Debug, PartialEq, Eq)]
+#[derive(Clone, Copy, PartialEq, Eq)]
 pub struct Choice {
     /// The block.
     pub block: BlockNo,

@@ -9,7 +9,7 @@ use d64_image::BlockNo;
 use d64_survey::Dump;
 
 /// What is to be done with a block whose good copies differ.
-#[derive(Clone, Copy, Debug, PartialEq, Eq)]
+#[derive(Clone, Copy, PartialEq, Eq)]
 pub struct Preference {
     /// Whether a copy is taken that is equal to more than half of the good ones.
     pub majority: bool,
@@ -18,7 +18,7 @@ pub struct Preference {
 }
 
 /// What becomes of a block.
-#[derive(Clone, Copy, Debug, PartialEq, Eq)]
+#[derive(Clone, Copy, PartialEq, Eq)]
 pub enum BlockOutcome {
     /// Each dump has a good copy, and all are equal.
     Same,

@@ -30,7 +30,7 @@ pub enum DumpFault {
 
 /// What a reader made of a disk: an image and, if the reader noted them, one read code for each
 /// block (the VICE manual, "The D64 disk image format").
-#[derive(Debug, Drop)]
+#[derive(Drop)]
 pub struct Dump {
     image: Image,
     /// One for each block, or no code at all.

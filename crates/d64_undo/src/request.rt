@@ -8,7 +8,7 @@ use d64_dos::{Command, Refusal, Reply};
 use std::alloc::{AllocError, Global};
 
 /// A request to a session.
-#[derive(Debug, Drop)]
+#[derive(Drop)]
 pub enum Request {
     /// To run a command on the present image.
     Apply(Command),

@@ -5,7 +5,7 @@ ghost use Rattle.host_names.specs.HostName.{ending_text, tail};
 use std::alloc::AllocError;
 
 /// The ending of a file's host name: by its kind, or by why it has none.
-#[derive(Clone, Copy, Debug, PartialEq, Eq)]
+#[derive(Clone, Copy, PartialEq, Eq)]
 pub enum Ending {
     Del,
     Seq,

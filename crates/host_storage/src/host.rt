@@ -45,7 +45,7 @@ impl HostFault {
 }
 
 /// What prevents the reading of a file, as its path shows.
-#[derive(Clone, Copy, Debug, PartialEq, Eq)]
+#[derive(Clone, Copy, PartialEq, Eq)]
 pub enum Obstacle {
     /// Nothing is at the path.
     Nothing,

@@ -8,7 +8,7 @@ use std::rt::Files;
 
 /// How many bytes the system allows a file of this process. The system is asked once, before the
 /// first write, so that reading does not wait for it.
-#[derive(Debug, Default, Drop)]
+#[derive(Default, Drop)]
 pub struct SizeLimit(Cell<Option<u64>>);
 
 impl SizeLimit {

@@ -7,7 +7,7 @@ use std::os::unix::fs::MetadataExt;
 use std::rt::Files;
 
 /// A standard stream.
-#[derive(Clone, Copy, Debug, PartialEq, Eq)]
+#[derive(Clone, Copy, PartialEq, Eq)]
 pub enum StandardStream {
     /// The standard input.
     Input,

@@ -35,7 +35,7 @@ struct End {
 }
 
 /// What a store does with the file that it has opened.
-#[derive(Clone, Copy, Debug, PartialEq, Eq)]
+#[derive(Clone, Copy, PartialEq, Eq)]
 enum Way {
     /// It writes to it as it is.
     InPlace,

@@ -7,7 +7,7 @@ use std::cell::Cell;
 use std::io::ErrorKind;
 
 /// The limit on the size of files, and what prevented the last write, as far as the system said it.
-#[derive(Debug, Default, Drop)]
+#[derive(Default, Drop)]
 pub struct Writes {
     pub limit: SizeLimit,
     obstacle: Cell<Option<WriteObstacle>>,

@@ -3,7 +3,7 @@ ghost use Rattle.std.specs.Prelude.{◌≡◌, length};
 ghost use Rattle.out_messages.specs.Guesses.{guess_by_length, guess_by_first_bytes, cut_short, guess_of as guess_by_all, guess_text};
 
 /// What a file whose length no image has seems to be.
-#[derive(Clone, Copy, Debug, PartialEq, Eq)]
+#[derive(Clone, Copy, PartialEq, Eq)]
 pub enum Guess {
     /// An empty file.
     Empty,

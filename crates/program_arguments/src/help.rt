@@ -1,7 +1,7 @@
 //! The texts of the help, beside those of single arguments.
 
 /// The help of a subcommand as a whole.
-#[derive(Clone, Copy, Debug)]
+#[derive(Clone, Copy)]
 pub(crate) struct Help {
     /// What it does, in a line.
     pub(crate) about: &'static str,

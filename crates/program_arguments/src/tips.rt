@@ -13,7 +13,7 @@ use std::alloc::{AllocError, Global};
 const SHOWN_CHARACTERS: usize = 64;
 
 /// What was probably meant: the shell, on an image, with a line to run.
-#[derive(Clone, Copy, Debug)]
+#[derive(Clone, Copy)]
 struct Intent<'a> {
     /// The name of the subcommand whose error it is, empty for the program's own.
     subcommand: &'static str,

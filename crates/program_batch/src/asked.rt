@@ -2,7 +2,7 @@
 use crate::reason::Reason;
 
 /// What a run is asked to process.
-#[derive(Clone, Copy, Debug)]
+#[derive(Clone, Copy)]
 pub(crate) enum Asked<'n> {
     /// The file with this name.
     File(&'n str),

@@ -6,7 +6,7 @@ use host_storage::{Host, HostFault, Obstacle, WriteObstacle};
 use std::alloc::AllocError;
 
 /// Why a file could not be read or written.
-#[derive(Clone, Copy, Debug, PartialEq, Eq)]
+#[derive(Clone, Copy, PartialEq, Eq)]
 pub enum Reason {
     /// There is nothing at its path.
     NoSuchFile,

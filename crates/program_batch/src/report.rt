@@ -5,7 +5,7 @@ ghost use Rattle.program_batch.specs.Answers.{worse_verdict, status_of};
 use std::alloc::{AllocError, Global};
 
 /// How good a file is, or the worst file of a run.
-#[derive(Clone, Copy, Debug, PartialEq, Eq)]
+#[derive(Clone, Copy, PartialEq, Eq)]
 pub enum Verdict {
     /// The file is good.
     Clean,
@@ -40,7 +40,7 @@ impl Verdict {
 }
 
 /// The result of one file, in buffers that are used for one file after another.
-#[derive(Debug, Drop)]
+#[derive(Drop)]
 pub struct ReportBuffer {
     /// What goes to the standard output.
     pub printed: Vec<u8>,

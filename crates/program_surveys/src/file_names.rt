@@ -5,7 +5,7 @@ ghost use Rattle.program_surveys.specs.SurveyFiles.{files_in, survey_files_of, l
 use program_arguments::{Names, Separator};
 
 /// The names of the files that a survey processes.
-#[derive(Clone, Copy, Debug)]
+#[derive(Clone, Copy)]
 pub enum FileNames<'n> {
     /// These names.
     Given(&'n [String]),

@@ -8,7 +8,7 @@ use script_text::held_line::HeldLine;
 use script_text::status::Status;
 
 /// What a session begins with, as an observer sees it.
-#[derive(Clone, Copy, Debug)]
+#[derive(Clone, Copy)]
 pub struct Opening<'n> {
     /// The name of the host file in which `save` stores by default, or empty.
     pub home: &'n str,
@@ -55,7 +55,7 @@ pub trait Observer {
 }
 
 /// The observer that does nothing.
-#[derive(Clone, Copy, Debug, Drop)]
+#[derive(Clone, Copy, Drop)]
 pub struct Nobody;
 
 impl Observer for Nobody {

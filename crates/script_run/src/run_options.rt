@@ -5,7 +5,7 @@ ghost use Rattle.script_run.specs.Transcript.{ends_script};
 use script_text::status::Status;
 
 /// How a script is run.
-#[derive(Clone, Copy, Debug)]
+#[derive(Clone, Copy)]
 pub struct RunOptions<'n> {
     /// The name of the host file in which `save` stores by default, or empty.
     pub home: &'n str,
@@ -14,7 +14,7 @@ pub struct RunOptions<'n> {
 }
 
 /// The effect of a refused line on its script.
-#[derive(Clone, Copy, Debug, PartialEq, Eq)]
+#[derive(Clone, Copy, PartialEq, Eq)]
 pub enum Refusals {
     /// The script goes on with the next line.
     GoOn,

@@ -9,7 +9,7 @@ use std::alloc::{AllocError, Global};
 use std::io::Read;
 
 /// What was read of a script.
-#[derive(Debug, Drop)]
+#[derive(Drop)]
 pub struct Script {
     /// The bytes that were read, at most `INPUT_BYTES`.
     pub bytes: Vec<u8>,

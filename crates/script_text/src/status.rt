@@ -15,7 +15,7 @@ const FIRST_REFUSAL: u8 = 30;
 
 /// The status of a line of a script. The numbers up to 72 are those of the drive's error channel
 /// (1541 User's Guide); those from 80 on are this project's own.
-#[derive(Clone, Copy, Debug, PartialEq, Eq)]
+#[derive(Clone, Copy, PartialEq, Eq)]
 pub enum Status {
     /// 00: the line was accepted.
     Done,
