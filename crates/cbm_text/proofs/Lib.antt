@@ -11,3 +11,4 @@ pub mod WholeTexts
 pub mod FileBytes
 pub mod FaultyTexts
 pub mod Stops
+pub mod OtherNames

@@ -1,6 +1,6 @@
 //! What is wrong with a faulty line of a BASIC text, as people can correct it.
 
-ghost use Rattle.std.specs.Prelude.{◌≡◌, ◌≤◌, ◌++◌, ℕ, List, length, IfOk, IfErr, None, OnOk, nat_eq, drop, position};
+ghost use Rattle.std.specs.Prelude.{◌≡◌, ◌≤◌, ◌++◌, ℕ, List, length, IfOk, IfErr, None, OnOk, nat_eq, drop, take, position};
 ghost use Rattle.std.specs.List.{before_first};
 ghost use Rattle.petscii.specs.TextFault.{IsTextOutOfMemory};
 ghost use Rattle.petscii.specs.TextForm.{IsTextOf, close_brace};
@@ -207,9 +207,19 @@ fn text_name_cause(name: &str) -> Cause
 }
 
 /// The byte for which other programs and listings have this name in braces.
-#[tactic(auto, unfolding(crate::specs::Causes::other_names))]
 fn other_name(name: &str) -> Option<u8>
     ensures { result ≡ byte_in other_names name.now }
+{
+    colour(name)
+        .or(further_colour(name))
+        .or(key(name))
+        .or(function_key(name))
+}
+
+/// The byte of a colour, up to the light red.
+#[tactic(auto, unfolding(crate::specs::Causes::other_names))]
+fn colour(name: &str) -> Option<u8>
+    ensures { result ≡ byte_in (take 8 other_names) name.now }
 {
     match name {
         "white" => Some(0x05),
@@ -220,6 +230,16 @@ fn other_name(name: &str) -> Option<u8>
         "brown" => Some(0x95),
         "pink" => Some(0x96),
         "light red" => Some(0x96),
+        _ => None,
+    }
+}
+
+/// The byte of a colour, from the dark gray on.
+#[tactic(auto, unfolding(crate::specs::Causes::other_names))]
+fn further_colour(name: &str) -> Option<u8>
+    ensures { result ≡ byte_in (take 11 (drop 8 other_names)) name.now }
+{
+    match name {
         "dark gray" => Some(0x97),
         "dark grey" => Some(0x97),
         "gray" => Some(0x98),
@@ -231,6 +251,16 @@ fn other_name(name: &str) -> Option<u8>
         "purple" => Some(0x9c),
         "yellow" => Some(0x9e),
         "cyan" => Some(0x9f),
+        _ => None,
+    }
+}
+
+/// The byte of a key, or of what it switches.
+#[tactic(auto, unfolding(crate::specs::Causes::other_names))]
+fn key(name: &str) -> Option<u8>
+    ensures { result ≡ byte_in (take 11 (drop 19 other_names)) name.now }
+{
+    match name {
         "right" => Some(0x1d),
         "rgt" => Some(0x1d),
         "clear" => Some(0x93),
@@ -242,6 +272,16 @@ fn other_name(name: &str) -> Option<u8>
         "rvs off" => Some(0x92),
         "lower case" => Some(0x0e),
         "upper case" => Some(0x8e),
+        _ => None,
+    }
+}
+
+/// The byte of a function key.
+#[tactic(auto, unfolding(crate::specs::Causes::other_names))]
+fn function_key(name: &str) -> Option<u8>
+    ensures { result ≡ byte_in (drop 30 other_names) name.now }
+{
+    match name {
         "f1" => Some(0x85),
         "f2" => Some(0x89),
         "f3" => Some(0x86),

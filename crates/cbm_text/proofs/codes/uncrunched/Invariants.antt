@@ -1,4 +1,4 @@
-use Rattle.std.proofs.Common.{◌≡◌, ℕ, List, ◌++◌, ◌≤◌, length}
+use Rattle.std.proofs.Common.{ℕ, List, ◌++◌, ◌≤◌, length}
 use Rattle.cbm_text.specs.declared.mode.Mode.TheVariants.{Free}
 use Rattle.cbm_text.specs.Causes.{StopsAfter}
 use Rattle.cbm_text.proofs.codes.uncrunched.Given as goal

@@ -1,11 +1,9 @@
-use Rattle.std.proofs.Common.{◌≡◌, ◌+◌, ◌≤◌, List, ℕ, length, true, false, sym, ◌∙◌, ap, subst, arith, rules}
+use Rattle.std.proofs.Common.{◌≡◌, ◌+◌, List, ℕ, length, true, false, sym, ◌∙◌, ap, subst, arith, rules}
 use Rattle.std.specs.Int.{from_bool}
 use Rattle.script_text.specs.RawLines.{lines_of, text_of, is_skipped}
 use Rattle.script_text.specs.declared.raw_lines.RawLines.{RawLines}
 use Rattle.script_text.proofs.LineCuts.{length-lines_of}
-use Rattle.cbm_text.specs.BasicText.{HasFault, IsLine, IsBasicOutOfMemory}
 use Rattle.cbm_text.specs.FaultyLines.{IsNoted}
-use Rattle.cbm_text.specs.Program.{ProgramLine, address_behind}
 use Rattle.cbm_text.proofs.FaultyTexts.{FaultySoFar, at_most_one, short_kept, so_far_all, so_far_none, so_far_noted, so_far_skipped}
 use Rattle.cbm_text.proofs.faulty_text.faulty_lines.Goals as goal
 
