@@ -12,6 +12,7 @@ mod look;
 mod memory_host;
 mod new_entry;
 mod new_file;
+mod outcomes;
 mod process_status;
 mod retrying;
 mod size_limit;

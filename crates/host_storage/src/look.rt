@@ -3,6 +3,7 @@
 ghost use Rattle.std.specs.Prelude.{◌≡◌, ◌≢◌, ◌⊎◌, ◌↔◌, Some};
 
 use crate::host::{Obstacle, WriteObstacle};
+use crate::outcomes::by_kind;
 use std::fs::{self, File, OpenOptions};
 use std::io::ErrorKind;
 use std::rt::Files;
@@ -10,9 +11,9 @@ use std::rt::Files;
 /// What prevents the reading of the file at this path, as far as the system says. Only a plain file
 /// is opened, since opening a pipe waits for its other end.
 pub fn obstacle<R: Files>(rt: &R, path: &str) -> Option<Obstacle> {
-    let found = match fs::metadata(rt, path) {
+    let found = match by_kind(fs::metadata(rt, path)) {
         Ok(found) => found,
-        Err(error) => return obstacle_of(error.kind()),
+        Err(kind) => return obstacle_of(kind),
     };
     if found.is_dir() {
         return Some(Obstacle::Folder);
@@ -20,9 +21,9 @@ pub fn obstacle<R: Files>(rt: &R, path: &str) -> Option<Obstacle> {
     if !found.is_file() {
         return None;
     }
-    match File::open(rt, path) {
+    match by_kind(File::open(rt, path)) {
         Ok(_) => None,
-        Err(error) => obstacle_of(error.kind()),
+        Err(kind) => obstacle_of(kind),
     }
 }
 
@@ -42,10 +43,10 @@ fn obstacle_of(kind: ErrorKind) -> Option<Obstacle>
 /// What prevents the writing of the file at this path, as far as the system says it of what is
 /// there. Only a plain file is opened, and no file is changed.
 pub fn write_obstacle<R: Files>(rt: &R, path: &str) -> Option<WriteObstacle> {
-    let found = match fs::metadata(rt, path) {
+    let found = match by_kind(fs::metadata(rt, path)) {
         Ok(found) => found,
-        Err(error) if error.kind() == ErrorKind::NotFound => return None,
-        Err(error) => return write_obstacle_of(error.kind()),
+        Err(ErrorKind::NotFound) => return None,
+        Err(kind) => return write_obstacle_of(kind),
     };
     if found.is_dir() {
         return Some(WriteObstacle::Folder);
@@ -53,9 +54,9 @@ pub fn write_obstacle<R: Files>(rt: &R, path: &str) -> Option<WriteObstacle> {
     if !found.is_file() {
         return None;
     }
-    match OpenOptions::new().append(true).open(rt, path) {
+    match by_kind(OpenOptions::new().append(true).open(rt, path)) {
         Ok(_) => None,
-        Err(error) => write_obstacle_of(error.kind()),
+        Err(kind) => write_obstacle_of(kind),
     }
 }
 

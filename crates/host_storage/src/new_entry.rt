@@ -18,7 +18,7 @@ pub fn is_there<R: Files>(rt: &R, path: &str) -> bool {
 
 /// Makes a folder.
 pub fn make_folder<R: Files>(rt: &R, writes: &Writes, path: &str) -> Result<(), FolderFault> {
-    fs::create_dir(rt, path).map_err(|error| refused(writes, error.kind()))
+    unless_refused(writes, fs::create_dir(rt, path))
 }
 
 /// Makes a file of these bytes, if the limit allows a file of this length, and removes it again if
@@ -32,7 +32,7 @@ pub fn make_file<R: Files>(
     if !writes.limit.holds(rt, bytes.len() as u64) {
         return Err(FolderFault::Device);
     }
-    let mut file = File::create_new(rt, path).map_err(|error| refused(writes, error.kind()))?;
+    let mut file = unless_refused(writes, File::create_new(rt, path))?;
     if let Err(error) = write_to_end(&mut file, bytes) {
         writes.keep(error.kind());
         // The call has failed already, and no more can be done if the file cannot be removed.
@@ -91,7 +91,15 @@ pub fn rename_folder<R: Files>(
     if is_there(rt, to) {
         return Err(FolderFault::Exists);
     }
-    fs::rename(rt, from, to).map_err(|error| refused(writes, error.kind()))
+    unless_refused(writes, fs::rename(rt, from, to))
+}
+
+/// The outcome of a call that makes something, with the fault for which nothing was made.
+fn unless_refused<T>(writes: &Writes, outcome: io::Result<T>) -> Result<T, FolderFault> {
+    match outcome {
+        Ok(made) => Ok(made),
+        Err(error) => Err(refused(writes, error.kind())),
+    }
 }
 
 /// The fault for which nothing was made. What the system says of it is kept.

@@ -7,6 +7,7 @@ ghost use Rattle.host_storage.specs.Host.{IsOfDeviceOrMemory};
 use crate::access::keep_access;
 use crate::draft::Draft;
 use crate::host::HostFault;
+use crate::outcomes::{by_kind, or_device};
 use std::alloc::{AllocError, Global};
 use std::fs::{self, File, OpenFile, OpenOptions};
 use std::io::{self, ErrorKind, Write};
@@ -68,16 +69,16 @@ where
     ghost place = { λ _. None };
 
     fn fill(&mut self, bytes: &[u8]) -> Result<(), HostFault> {
-        keep_access(&self.old, &self.new).map_err(|_| HostFault::Device)?;
-        write_to_end(&mut self.new, bytes).map_err(|_| HostFault::Device)
+        or_device(keep_access(&self.old, &self.new))?;
+        or_device(write_to_end(&mut self.new, bytes))
     }
 
     fn sync(&mut self) -> Result<(), HostFault> {
-        self.new.sync_all().map_err(|_| HostFault::Device)
+        or_device(self.new.sync_all())
     }
 
     fn publish(&mut self) -> Result<(), HostFault> {
-        fs::rename(self.rt, self.new_path.as_path(), self.old_path).map_err(|_| HostFault::Device)?;
+        or_device(fs::rename(self.rt, self.new_path.as_path(), self.old_path))?;
         sync_folder_of(self.rt, self.old_path);
         Ok(())
     }
@@ -106,10 +107,10 @@ pub fn open_beside<R: Files>(
 ) -> Result<(R::File, PathBuf), DraftFault> {
     for number in 0..u64::MAX {
         let new_path = draft_path(alloc, path, number).map_err(DraftFault::Memory)?;
-        match open_new(rt, new_path.as_path(), mode) {
+        match by_kind(open_new(rt, new_path.as_path(), mode)) {
             Ok(new) => return Ok((new, new_path)),
-            Err(error) if error.kind() == ErrorKind::AlreadyExists => {}
-            Err(error) => return Err(DraftFault::System(error.kind())),
+            Err(ErrorKind::AlreadyExists) => {}
+            Err(kind) => return Err(DraftFault::System(kind)),
         }
     }
     Err(DraftFault::System(ErrorKind::AlreadyExists))

@@ -12,8 +12,23 @@ const STATUS_BYTES: usize = 4096;
 /// The number after this text in such a file, or None if there is no number.
 pub fn number_after<R: Files>(rt: &R, path: &str, words: &str) -> Option<u64> {
     let mut bytes = [0; STATUS_BYTES];
-    let count = File::open(rt, path).ok()?.read(&mut bytes).ok()?;
-    let text = str::from_utf8(&bytes[..count]).ok()?;
+    match File::open(rt, path) {
+        Ok(mut file) => number_in(first_piece(&mut file, &mut bytes), words),
+        Err(_) => None,
+    }
+}
+
+/// What the first read of a file gives, or nothing if it fails.
+fn first_piece<'b, F: Read>(file: &mut F, buffer: &'b mut [u8]) -> &'b [u8] {
+    match file.read(buffer) {
+        Ok(count) => &buffer[..count],
+        Err(_) => &[],
+    }
+}
+
+/// The number after these words in a text, or None if there is no number.
+fn number_in(text: &[u8], words: &str) -> Option<u64> {
+    let text = str::from_utf8(text).ok()?;
     let (_, rest) = text.split_once(words)?;
     rest.split_whitespace().next()?.parse().ok()
 }

@@ -47,17 +47,23 @@ impl StandardStreams {
     /// The streams of this process. They are looked up before anything is opened, which could get
     /// the descriptor of a stream that is closed.
     pub fn of_process<R: Files>(rt: &R) -> StandardStreams {
-        let streams = [
-            StandardStream::Input,
-            StandardStream::Output,
-            StandardStream::Error,
-        ];
-        StandardStreams(streams.map(|stream| stream.metadata(rt)))
+        StandardStreams([
+            StandardStream::Input.metadata(rt),
+            StandardStream::Output.metadata(rt),
+            StandardStream::Error.metadata(rt),
+        ])
     }
 
     /// Whether this file is open as one of them.
     fn have(&self, file: &Metadata) -> bool {
-        self.0.iter().flatten().any(|open| is_same_file(open, file))
+        for open in &self.0 {
+            if let Some(open) = open
+                && is_same_file(open, file)
+            {
+                return true;
+            }
+        }
+        false
     }
 
     /// Whether the file of this name is open as one of them too, or may be, since the system does

@@ -10,6 +10,7 @@ use crate::draft::replace_by;
 use crate::host::{FolderFault, HostFault};
 use crate::new_entry::make_file;
 use crate::new_file::{NewFile, write_to_end};
+use crate::outcomes::{by_kind, or_device};
 use crate::process_status::device_of_processes;
 use crate::standard_streams::{StandardStreams, is_same_file};
 use crate::writes::Writes;
@@ -88,11 +89,28 @@ where
         return Err(HostFault::Device);
     }
     // The system opens the file, by its own rules for links.
-    let opened = OpenOptions::new().write(true).open(rt, name);
+    let opened = by_kind(OpenOptions::new().write(true).open(rt, name));
     let end = end_of_links(rt, alloc, name)?;
+    store_at(rt, alloc, writes, opened, &end, bytes)
+}
+
+/// Stores to the end of the links, which the system has opened or has not. Returns whether it has
+/// stored.
+fn store_at<R: Files>(
+    rt: &R,
+    alloc: Global,
+    writes: &Writes,
+    opened: Result<R::File, ErrorKind>,
+    end: &End,
+    bytes: &[u8],
+) -> Result<bool, HostFault>
+where
+    R::File: AsFd,
+    ensures { IfErr result IsOfDeviceOrMemory }
+{
     match opened {
-        Ok(old) => store_over(rt, alloc, writes, old, &end, bytes),
-        Err(error) if error.kind() != ErrorKind::NotFound => Err(HostFault::Device),
+        Ok(old) => store_over(rt, alloc, writes, old, end, bytes),
+        Err(kind) if kind != ErrorKind::NotFound => Err(HostFault::Device),
         Err(_) if end.found.is_some() => Ok(false),
         Err(_) => match make_file(rt, writes, end.path.as_path(), bytes) {
             Ok(()) => Ok(true),
@@ -134,14 +152,18 @@ where
 impl End {
     /// Whether the links end at one of the system's own.
     fn is_link(&self) -> bool {
-        self.found.as_ref().is_some_and(|found| found.is_symlink())
+        match &self.found {
+            Some(found) => found.is_symlink(),
+            None => false,
+        }
     }
 
     /// Whether this file is what is there.
     fn has(&self, file: &Metadata) -> bool {
-        self.found
-            .as_ref()
-            .is_some_and(|found| is_same_file(file, found))
+        match &self.found {
+            Some(found) => is_same_file(file, found),
+            None => false,
+        }
     }
 }
 
@@ -187,7 +209,7 @@ fn write_in_place<F: OpenFile + Write + Drop>(
     if is_file && old.set_len(0).is_err() {
         return Err(HostFault::Device);
     }
-    write_to_end(&mut old, bytes).map_err(|_| HostFault::Device)
+    or_device(write_to_end(&mut old, bytes))
 }
 
 /// Follows the links from a name to their end, except those of the system's own.
@@ -197,13 +219,15 @@ fn end_of_links<R: Files>(rt: &R, alloc: Global, name: &str) -> Result<End, Host
     let processes = device_of_processes(rt);
     let mut path = PathBuf::from_str(alloc, name).map_err(HostFault::Memory)?;
     for _ in 0..=MOST_LINKS {
-        let found = match fs::symlink_metadata(rt, path.as_path()) {
+        let found = match by_kind(fs::symlink_metadata(rt, path.as_path())) {
             Ok(found) => Some(found),
-            Err(error) if error.kind() == ErrorKind::NotFound => None,
+            Err(ErrorKind::NotFound) => None,
             Err(_) => return Err(HostFault::Device),
         };
-        let is_followed = found.as_ref().is_some_and(|found| found.is_symlink()
-            && !is_of_system(found.dev(), processes));
+        let is_followed = match &found {
+            Some(found) => found.is_symlink() && !is_of_system(found.dev(), processes),
+            None => false,
+        };
         if !is_followed {
             return Ok(End { path, found });
         }
@@ -224,11 +248,9 @@ fn is_of_system(device: u64, processes: Option<u64>) -> bool
 fn linked<R: Files>(rt: &R, alloc: Global, mut path: PathBuf) -> Result<PathBuf, HostFault>
     ensures { IfErr result IsOfDeviceOrMemory }
 {
-    let link = match rt.read_link(alloc, path.as_path().path_text()) {
+    let link = match by_kind(rt.read_link(alloc, path.as_path().path_text())) {
         Ok(link) => link,
-        Err(error) if error.kind() == ErrorKind::OutOfMemory => {
-            return Err(HostFault::Memory(AllocError));
-        }
+        Err(ErrorKind::OutOfMemory) => return Err(HostFault::Memory(AllocError)),
         Err(_) => return Err(HostFault::Device),
     };
     path.pop();
