@@ -2,7 +2,9 @@
 //! `d64_shell`, and shows the progress of a long run.
 #![tactic(auto)]
 
-use d64_shell::{Console, FolderHost, Job, ObservedProgram, Observer, ProgramFault, job};
+use d64_shell::{
+    Console, FolderHost, Job, ObservedProgram, Observer, ProgramFault, Subcommand, job,
+};
 use host_storage::{Retrying, SizeLimit, StandardStream};
 use program_streams::{
     MarkingWriter, ProgressLine, QuietWriter, WatchedHost, WipingWriter, WithinLimit,
@@ -57,7 +59,7 @@ fn start<'a, E: Write>(
         return Ok(NOT_RUN);
     }
     let output = WithinLimit::new(rt, limit, StandardStream::Output, rt.stdout());
-    let is_marking = is_survey(arguments.first());
+    let is_marking = is_report(arguments.first());
     let output = Retrying(MarkingWriter::new(is_unread, is_marking, output));
     run_program(rt, limit, line, output, errors, words.as_slice())
 }
@@ -111,12 +113,12 @@ fn asks_for_program(alloc: Global, words: &[&str]) -> bool {
 }
 
 /// Whether the first argument is a subcommand whose output may go unread without a fault.
-fn is_survey(argument: Option<&String>) -> bool {
-    match argument {
-        Some(argument) => matches!(
-            argument.as_str(),
-            "check" | "files" | "extract" | "map" | "catalogue" | "diff" | "merge"
-        ),
+fn is_report(argument: Option<&String>) -> bool {
+    let Some(name) = argument else {
+        return false;
+    };
+    match Subcommand::named(name.as_str()) {
+        Some(subcommand) => subcommand.is_report(),
         None => false,
     }
 }

@@ -1,11 +1,17 @@
 -- A command that an argument or a subcommand is added to is the one that is described so, and stays
 -- without global arguments.
-use Rattle.std.proofs.Common.{◌∙◌, ap, ap₂, refl}
+use Rattle.std.proofs.Common.{◌≡◌, ◌∙◌, ◌∷◌, ◌+◌, ◌<◌, ℕ, List, [], ap, ap₂, refl, fold, length, slice_index_or, take}
+use Rattle.std.proofs.lemmas.List.{take_more}
+use Rattle.std.proofs.lemmas.List.Sums.{fold-append}
 use Rattle.clap.specs.Words.{AddsSubcommand, App, Rule, with_rule, with_subcommand}
 use Rattle.clap.specs.Built.{AddsArg}
 use Rattle.clap.specs.declared.builder.arg.Arg.{Arg}
 use Rattle.clap.specs.declared.builder.command.Command.{Command}
+use Rattle.program_arguments.specs.Commands.{bare_app}
 use Rattle.program_arguments.specs.Making.{IsArgument, IsCommand}
+use Rattle.program_arguments.specs.Subcommands.{app_for}
+use Rattle.program_arguments.specs.declared.subcommand.Subcommand.{Subcommand}
+use Rattle.program_arguments.specs.declared.subcommand.Subcommand.TheVariants.{Shell}
 
 pub with_one : {old new : Command} {argument : Arg} {app : App} {rule : Rule} → AddsArg old argument new → IsCommand app old → IsArgument rule argument
     → IsCommand (with_rule app rule) new
@@ -15,3 +21,12 @@ pub added : {old sub new : Command} {app below : App} → AddsSubcommand old sub
     → IsCommand (with_subcommand app below.top) new
 added adds is is_below =
     (adds.shape is_below.1 ∙ ap₂ with_subcommand is.0 (ap (λ (a : App). a.top) is_below.0), adds.globals ∙ rw (is.1, is_below.1) refl)
+
+-- `d64sh` with these of its subcommands
+abbrev pub with_these : List Subcommand → App
+with_these subcommands = fold (λ command subcommand. with_subcommand command (app_for subcommand).top) bare_app subcommands
+
+pub with_next : (subcommands : List Subcommand) (i : ℕ) → i < length subcommands
+    → with_these (take (i + 1) subcommands) ≡ with_subcommand (with_these (take i subcommands)) (app_for (slice_index_or subcommands i Shell)).top
+with_next subcommands i within =
+    ap with_these (take_more subcommands i Shell within) ∙ fold-append (λ command subcommand. with_subcommand command (app_for subcommand).top) bare_app (take i subcommands) (slice_index_or subcommands i Shell ∷ [])

@@ -1,19 +1,19 @@
 -- A subcommand that reads the arguments from its name on alone makes of them what the program makes
 -- of all arguments.
-use Rattle.std.proofs.Common.{◌≡◌, ◌∙◌, ◌++◌, Bool, cond, true, false, refl, sym, ap, ap₂, subst, List, [], ◌∷◌, Option, Some, None, append-nil, append_assoc, codes, drop, is_some}
-use Rattle.std.specs.Prelude.{option_map, ⊤}
+use Rattle.std.proofs.Common.{◌≡◌, ◌∙◌, ◌++◌, cond, true, false, refl, sym, ap, ap₂, List, [], ◌∷◌, Option, Some, None, append-nil, append_assoc, codes, drop, is_some}
+use Rattle.std.specs.Prelude.{option_map}
 use Rattle.std.specs.List.{find, fold}
 use Rattle.std.specs.Str.{bytes_eq}
-use Rattle.std.proofs.lemmas.Slice.Eq.{bytes_eq-Decides}
 use Rattle.clap.specs.Kinds.{Kinds, or_else}
 use Rattle.clap.specs.Faults.{built_fault, check_fault, defaults_fault, entered_fault, fault_of, is_simple_and_free, level_fault, walk_fault}
 use Rattle.clap.specs.Simple.{App, Shape, argument_words, built, entered, is_simple, label_of, matches_of, names_of, rows_at, subcommand_of}
 use Rattle.clap.specs.Walk.{Names, Rule, Text, Walk, answers_to, finished, idle, nothing_held, rows_after, walk, walk_from, walked}
 use Rattle.clap.proofs.OnLiterals.{clap_on_literals}
 use Rattle.clap.proofs.WalkLemmas.{both, find-map}
-use Rattle.program_arguments.specs.Commands.{apps, d64sh, app_named}
-use Rattle.program_arguments.proofs.Filled.{found_passes}
-use Rattle.program_arguments.proofs.Parses.{none≢some, same_Some}
+use Rattle.program_arguments.specs.Commands.{d64sh}
+use Rattle.program_arguments.specs.Subcommands.{app_for, name_for}
+use Rattle.program_arguments.specs.declared.subcommand.Subcommand.{Subcommand}
+use Rattle.program_arguments.specs.declared.subcommand.Subcommand.TheVariants.{Shell, Petcat, Crunch, Check, Files, Extract, Map, Diff, Merge, Catalogue}
 
 -- the walk that stopped at a subcommand, with these arguments after it
 abbrev at_subcommand : Text → List Text → Walk
@@ -81,22 +81,18 @@ IsPart leaf = (is_simple_and_free leaf ≡ true) × (leaf.top.no_binary_name ≡
     × ((built leaf).top.name ≡ leaf.top.name) × (bytes_eq leaf.top.name (codes "help") ≡ false)
     × (find (λ t. answers_to leaf.top.name (label_of t)) (built d64sh).subs ≡ Some (built leaf).top)
 
-abbrev AreParts : List App → Type 0
-AreParts [] = ⊤
-AreParts (leaf ∷ leaves) = IsPart leaf × AreParts leaves
-
-are_parts : AreParts apps
+is_part : (subcommand : Subcommand) → IsPart (app_for subcommand)
 unfolding clap_on_literals d64sh
-are_parts =
-    ((refl, refl, refl, refl, refl, refl), ((refl, refl, refl, refl, refl, refl), ((refl, refl, refl, refl, refl, refl), ((refl, refl, refl, refl, refl, refl), ((refl, refl, refl, refl, refl, refl), ((refl, refl, refl, refl, refl, refl), ((refl, refl, refl, refl, refl, refl), ((refl, refl, refl, refl, refl, refl), ((refl, refl, refl, refl, refl, refl), ((refl, refl, refl, refl, refl, refl), tt))))))))))
-
-part_found : (test : App → Bool) (leaves : List App) (leaf : App) → AreParts leaves → find test leaves ≡ Some leaf → IsPart leaf
-part_found test [] leaf are is = absurd (none≢some leaf is)
-part_found test (first ∷ leaves) leaf are is = go (part_found test leaves leaf are.1) (test first) is
-  where
-    go : (find test leaves ≡ Some leaf → IsPart leaf) → (t : Bool) → cond t (Some first) (find test leaves) ≡ Some leaf → IsPart leaf
-    go later true is = subst IsPart (same_Some first leaf is) are.0
-    go later false is = later is
+is_part Shell = (refl, refl, refl, refl, refl, refl)
+is_part Petcat = (refl, refl, refl, refl, refl, refl)
+is_part Crunch = (refl, refl, refl, refl, refl, refl)
+is_part Check = (refl, refl, refl, refl, refl, refl)
+is_part Files = (refl, refl, refl, refl, refl, refl)
+is_part Extract = (refl, refl, refl, refl, refl, refl)
+is_part Map = (refl, refl, refl, refl, refl, refl)
+is_part Diff = (refl, refl, refl, refl, refl, refl)
+is_part Merge = (refl, refl, refl, refl, refl, refl)
+is_part Catalogue = (refl, refl, refl, refl, refl, refl)
 
 no_default_fails : defaults_fault [] (built d64sh).top.rules ≡ []
 unfolding clap_on_literals d64sh
@@ -110,19 +106,25 @@ has_binary_name : d64sh.top.no_binary_name ≡ false
 unfolding d64sh
 has_binary_name = refl
 
+pub free : (subcommand : Subcommand) → is_simple_and_free (app_for subcommand) ≡ true
+free subcommand = (is_part subcommand).0
+
+pub simple : (subcommand : Subcommand) → is_simple (app_for subcommand) ≡ true
+simple subcommand = (both (is_simple (app_for subcommand)) _ (free subcommand)).0
+
 -- the arguments of the program, which go on with the name of a subcommand
-module _ (words : List Text) (name : Text) (rest : List Text) (leaf : App) (is : app_named name ≡ Some leaf) (begins : drop 1 words ≡ name ∷ rest) where
+module _ (words : List Text) (rest : List Text) (subcommand : Subcommand) (begins : drop 1 words ≡ name_for subcommand ∷ rest) where
+  abbrev leaf : App
+  leaf = app_for subcommand
+
+  abbrev name : Text
+  name = name_for subcommand
+
   part : IsPart leaf
-  part = part_found (λ app. bytes_eq app.top.name name) apps leaf are_parts is
-
-  pub free : is_simple_and_free leaf ≡ true
-  free = part.0
-
-  pub simple : is_simple leaf ≡ true
-  simple = (both (is_simple leaf) _ free).0
+  part = is_part subcommand
 
   same_name : (built leaf).top.name ≡ name
-  same_name = part.3 ∙ (bytes_eq-Decides leaf.top.name name).0 (found_passes (λ app. bytes_eq app.top.name name) apps leaf is)
+  same_name = part.3
 
   begins_so : argument_words d64sh words ≡ (built leaf).top.name ∷ rest
   begins_so = rw has_binary_name (begins ∙ ap (λ n. n ∷ rest) (sym same_name))

@@ -1,5 +1,5 @@
 -- Arguments without a fault name no subcommand `help`: clap prints the help for that one by itself.
-use Rattle.std.proofs.Common.{◌≡◌, ◌∙◌, ◌&&◌, ◌||◌, ◌++◌, ℕ, Bool, cond, true, false, not, refl, sym, ap, List, [], ◌∷◌, Option, Some, None, codes, is_some, true≢false, inl, inr}
+use Rattle.std.proofs.Common.{◌≡◌, ◌∙◌, ◌&&◌, ◌||◌, ◌++◌, ℕ, Bool, cond, true, false, not, refl, sym, ap, List, [], ◌∷◌, Option, Some, None, codes, is_some, true≢false}
 use Rattle.std.specs.Prelude.{option_and_then, option_map, ⊤}
 use Rattle.std.specs.List.{find, fold, list_all}
 use Rattle.std.specs.Str.{bytes_eq}
@@ -14,6 +14,7 @@ use Rattle.clap.proofs.OnLiterals.{clap_on_literals}
 use Rattle.program_arguments.specs.Requested.{IsOneOf, Met, subcommands}
 use Rattle.program_arguments.specs.Commands.{d64sh}
 use Rattle.program_arguments.proofs.Filled.{found_all, found_passes}
+use Rattle.program_arguments.proofs.OneOf.{other_than_last}
 use Rattle.program_arguments.proofs.Parses.{met_among, none≢some, same_Some}
 
 pub first_none : (a b : Kinds) → or_else a b ≡ [] → a ≡ []
@@ -144,12 +145,6 @@ entered_elsewhere subs plainly (Some p) is met e = go (find (λ s. answers_to p.
         let answers = found_passes (λ v. answers_to p.0 (label_of v)) subs s at in
         let same : s.name ≡ p.0 = (bytes_eq-Decides s.name p.0).0 (named_alone s.aliases s.name p.0 alone answers) in
         ap (λ name. bytes_eq name help) (ap (λ (m : Met). m.0) (sym (same_Some (rows_at s p.1) met e)) ∙ same) ∙ is
-
-other_than_last : (names : List Text) (last name : Text) → IsOneOf (names ++ last ∷ []) name → bytes_eq name last ≡ false → IsOneOf names name
-other_than_last [] last name (inl same) other = absurd (true≢false (sym ((bytes_eq-Decides name last).1 same) ∙ other))
-other_than_last [] last name (inr none) other = none
-other_than_last (first ∷ names) last name (inl same) other = inl same
-other_than_last (first ∷ names) last name (inr later) other = inr (other_than_last names last name later other)
 
 plainly_named : list_all is_plainly_named (built d64sh).subs ≡ true
 unfolding clap_on_literals d64sh

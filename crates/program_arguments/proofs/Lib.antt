@@ -3,5 +3,6 @@ pub mod Addresses
 pub mod Alone
 pub mod Filled
 pub mod Helps
+pub mod OneOf
 pub mod Parses
 pub mod Required

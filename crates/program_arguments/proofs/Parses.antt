@@ -84,6 +84,11 @@ module _ (command : Command) (words : List Text) (is : app_of command ≡ d64sh)
   pub no_fault : fault_of (app_of command) words ≡ [] → fault_of d64sh words ≡ []
   no_fault none = sym (ap (λ a. fault_of a words) is) ∙ none
 
+-- the name of what is met, by another that is equal
+pub met_as : (words : List Text) {name other : Text} {rows : List Row} → subcommand_of d64sh words ≡ Some (name, rows) → other ≡ name
+    → subcommand_of d64sh words ≡ Some (other, rows)
+met_as words {rows = rows} is same = is ∙ ap (λ name. Some (name, rows)) (sym same)
+
 -- clap's error is reported
 pub reported : (words : List Text) (error : Error) (fault : JobFault) → HasKind (fault_of d64sh words) error → IsReportedAs error fault → IsFault words fault
 reported words error (Words carried) kind is = elim kind [ inl memory ↦ absurd (is.1 memory) | inr among ↦ subst (λ (e : Error). IsAmong (kind_of e) (fault_of d64sh words) × (kind_of e ≢ OutOfMemory)) (sym is.0) (among, is.1) ]

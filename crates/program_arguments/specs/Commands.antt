@@ -1,5 +1,5 @@
 -- The program's subcommands and their arguments, as `clap` reads them.
-use Rattle.std.specs.Prelude.{◌∷◌, ℕ, List, [], Option, Some, bytes_eq, codes, find, fold, true}
+use Rattle.std.specs.Prelude.{◌∷◌, ℕ, List, [], Some, codes, fold, true}
 use Rattle.clap.specs.Words.{App, Rule, new_app, new_rule, with_rule, with_subcommand}
 use Rattle.clap.specs.Lexer.{usize_max}
 use Rattle.clap.specs.declared.builder.action.ArgAction.TheVariants.{Append, SetTrue}
@@ -113,10 +113,6 @@ catalogue =
 -- the subcommands
 abbrev pub apps : List App
 apps = shell ∷ petcat ∷ crunch ∷ check ∷ files ∷ extract ∷ map ∷ diff ∷ merge ∷ catalogue ∷ []
-
--- the subcommand with this name
-abbrev pub app_named : List ℕ → Option App
-app_named name = find (λ app. bytes_eq app.top.name name) apps
 
 -- `d64sh` alone: it has a version, requires a subcommand, and prints its help without arguments and
 -- after `help`

@@ -9,5 +9,6 @@ pub mod Merging
 pub mod Names
 pub mod Page
 pub mod Start
+pub mod Subcommands
 pub mod Tracks
 pub mod Values

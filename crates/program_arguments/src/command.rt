@@ -1,12 +1,14 @@
 //! The program's subcommands and their arguments, with their help.
 
-ghost use Rattle.std.specs.Prelude.{◌≡◌, IfOk, false, option_map};
+ghost use Rattle.std.specs.Prelude.{◌≡◌, IfOk, false};
 ghost use Rattle.clap.specs.Words.{App, Rule, app_of, kind_of, new_app, rule_of, with_rule, with_subcommand};
 ghost use Rattle.clap.specs.declared.builder.command.Command.TheViews.{out-Command as fields_of};
-ghost use Rattle.program_arguments.specs.Commands.{bare_app, d64sh, app_named, shell, petcat, crunch, check, files, extract, map, diff, merge, catalogue, survey, with_leftovers, with_names, file_argument, image_argument, required_argument, files_argument, with_preference, valued_option, output_option, line_option, stop_flag, flag, with_script};
+ghost use Rattle.program_arguments.specs.Commands.{bare_app, d64sh, shell, petcat, crunch, check, files, extract, map, diff, merge, catalogue, survey, with_leftovers, with_names, file_argument, image_argument, required_argument, files_argument, with_preference, valued_option, output_option, line_option, stop_flag, flag, with_script};
 ghost use Rattle.program_arguments.specs.Making.{IsArgument, IsCommandMade};
+ghost use Rattle.program_arguments.specs.Subcommands.{name_for};
 
-use crate::help::help_of;
+use crate::help::{ABOUT, DETAILS};
+use crate::subcommand::Subcommand;
 use clap::error::ErrorKind;
 use clap::{Arg, ArgAction, Command, Error};
 use std::alloc::{AllocError, Global};
@@ -18,53 +20,23 @@ const VERSION: &str = "0.3.0";
 pub(crate) fn d64sh<'a>(alloc: Global) -> Result<Command<'a>, AllocError>
     ensures { IsCommandMade d64sh result }
 {
-    let command = with_subcommand(Ok(bare(alloc)), shell(alloc));
-    let command = with_subcommand(command, petcat(alloc));
-    let command = with_subcommand(command, crunch(alloc));
-    let command = with_subcommand(command, check(alloc));
-    let command = with_subcommand(command, files(alloc));
-    let command = with_subcommand(command, extract(alloc));
-    let command = with_subcommand(command, map(alloc));
-    let command = with_subcommand(command, diff(alloc));
-    let command = with_subcommand(command, merge(alloc));
-    with_subcommand(command, catalogue(alloc))
+    let mut command = Ok(bare(alloc));
+    for subcommand in Subcommand::ALL {
+        command = with_subcommand(command, subcommand.command(alloc));
+    }
+    command
 }
 
-/// Returns the subcommand with this name, if there is one. It makes of the arguments from its name
-/// on what `d64sh` makes of all arguments, and the options of the other subcommands are not made
-/// for it.
-pub(crate) fn named<'a>(alloc: Global, name: &str) -> Result<Option<Command<'a>>, AllocError>
-    ensures { IfOk result (λ command. option_map app_of command ≡ app_named name.now) }
-{
-    let command = match name {
-        "shell" => shell(alloc),
-        "petcat" => petcat(alloc),
-        "crunch" => crunch(alloc),
-        "check" => check(alloc),
-        "files" => files(alloc),
-        "extract" => extract(alloc),
-        "map" => map(alloc),
-        "diff" => diff(alloc),
-        "merge" => merge(alloc),
-        "catalogue" => catalogue(alloc),
-        _ => return Ok(None),
-    };
-    Ok(Some(command?))
-}
-
-/// Returns an error of this kind with this text, and the usage of the subcommand with this name, or
-/// of the program if there is none.
+/// Returns an error of this kind with this text and this usage.
 pub(crate) fn error(
     alloc: Global,
-    name: &str,
+    usage: &'static str,
     kind: ErrorKind,
     message: &str,
 ) -> Result<Error, AllocError>
     ensures { IfOk result (λ error. kind_of error ≡ kind) }
 {
-    bare(alloc)
-        .override_usage(help_of(name).usage)
-        .error(kind, message)
+    bare(alloc).override_usage(usage).error(kind, message)
 }
 
 /// Returns the command `d64sh` without its subcommands.
@@ -72,21 +44,21 @@ fn bare<'a>(alloc: Global) -> Command<'a>
     ensures app { app_of result ≡ bare_app }
     ensures local { (fields_of result).has_globals ≡ false }
 {
-    let help = help_of("");
     Command::new(alloc, "d64sh")
         .version(VERSION)
-        .about(help.about)
-        .after_help(help.details)
+        .about(ABOUT)
+        .after_help(DETAILS)
         .subcommand_required(true)
         .arg_required_else_help(true)
 }
 
-/// Returns the subcommand with this name, without arguments yet.
-fn subcommand<'a>(alloc: Global, name: &'a str) -> Command<'a>
-    ensures app { app_of result ≡ new_app name.now }
+/// Returns the command of a subcommand, without arguments yet.
+fn begun<'a>(alloc: Global, subcommand: Subcommand) -> Command<'a>
+    ensures app { app_of result ≡ new_app (name_for subcommand) }
     ensures local { (fields_of result).has_globals ≡ false }
 {
-    let help = help_of(name);
+    let help = subcommand.help();
+    let name: &'a str = help.name;
     Command::new(alloc, name)
         .about(help.about)
         .override_usage(help.usage)
@@ -122,7 +94,7 @@ fn with_subcommand<'a>(
 
 /// Returns `shell [-e] [-c LINE].. [--tracks N] [IMAGE]` and `shell [-e] [-c LINE].. --resume FILE
 /// [IMAGE]`.
-fn shell<'a>(alloc: Global) -> Result<Command<'a>, AllocError>
+pub(crate) fn shell<'a>(alloc: Global) -> Result<Command<'a>, AllocError>
     ensures { IsCommandMade shell result }
 {
     let tracks = valued_option(
@@ -131,7 +103,7 @@ fn shell<'a>(alloc: Global) -> Result<Command<'a>, AllocError>
         "N",
         "Tracks of the blank image: 35 or 40; without it, 35. Not with IMAGE",
     );
-    let command = with_argument(Ok(subcommand(alloc, "shell")), tracks);
+    let command = with_argument(Ok(begun(alloc, Subcommand::Shell)), tracks);
     let resume = valued_option(
         alloc,
         "resume",
@@ -155,17 +127,17 @@ fn with_script<'a>(
 }
 
 /// Returns `petcat [-o FILE] [FILE]`.
-fn petcat<'a>(alloc: Global) -> Result<Command<'a>, AllocError>
+pub(crate) fn petcat<'a>(alloc: Global) -> Result<Command<'a>, AllocError>
     ensures { IsCommandMade petcat result }
 {
     let output = output_option(alloc, "The text's file; without it, the standard output");
-    let command = with_argument(Ok(subcommand(alloc, "petcat")), output);
+    let command = with_argument(Ok(begun(alloc, Subcommand::Petcat)), output);
     let file = file_argument(alloc, "The program file; without it, the standard input");
     with_argument(command, file)
 }
 
 /// Returns `crunch [--start HEX] [-o FILE] [FILE]`.
-fn crunch<'a>(alloc: Global) -> Result<Command<'a>, AllocError>
+pub(crate) fn crunch<'a>(alloc: Global) -> Result<Command<'a>, AllocError>
     ensures { IsCommandMade crunch result }
 {
     let start = valued_option(
@@ -174,7 +146,7 @@ fn crunch<'a>(alloc: Global) -> Result<Command<'a>, AllocError>
         "HEX",
         "Load address: one to four hexadecimal digits; without it, 0801",
     );
-    let command = with_argument(Ok(subcommand(alloc, "crunch")), start);
+    let command = with_argument(Ok(begun(alloc, Subcommand::Crunch)), start);
     let output = output_option(alloc, "The program file; without it, the standard output");
     let command = with_argument(command, output);
     let file = file_argument(alloc, "The text; without it, the standard input");
@@ -182,7 +154,7 @@ fn crunch<'a>(alloc: Global) -> Result<Command<'a>, AllocError>
 }
 
 /// Returns `check [--digest]` with the arguments of a survey.
-fn check<'a>(alloc: Global) -> Result<Command<'a>, AllocError>
+pub(crate) fn check<'a>(alloc: Global) -> Result<Command<'a>, AllocError>
     ensures { IsCommandMade check result }
 {
     let digest = flag(
@@ -190,21 +162,21 @@ fn check<'a>(alloc: Global) -> Result<Command<'a>, AllocError>
         "digest",
         "Add the SHA-256 digest of each file's bytes",
     );
-    let command = with_argument(Ok(subcommand(alloc, "check")), digest);
+    let command = with_argument(Ok(begun(alloc, Subcommand::Check)), digest);
     survey(alloc, command)
 }
 
 /// `files [--deleted] [--orphans]` with the arguments of a survey.
-fn files<'a>(alloc: Global) -> Result<Command<'a>, AllocError>
+pub(crate) fn files<'a>(alloc: Global) -> Result<Command<'a>, AllocError>
     ensures { IsCommandMade files result }
 {
-    let command = with_leftovers(alloc, Ok(subcommand(alloc, "files")));
+    let command = with_leftovers(alloc, Ok(begun(alloc, Subcommand::Files)));
     survey(alloc, command)
 }
 
 /// `extract [--into FOLDER] [--part] [--skip-existing] [--deleted] [--orphans]` with the
 /// arguments of a survey.
-fn extract<'a>(alloc: Global) -> Result<Command<'a>, AllocError>
+pub(crate) fn extract<'a>(alloc: Global) -> Result<Command<'a>, AllocError>
     ensures { IsCommandMade extract result }
 {
     let into = valued_option(
@@ -213,7 +185,7 @@ fn extract<'a>(alloc: Global) -> Result<Command<'a>, AllocError>
         "FOLDER",
         "Put the images' folders into this one, which is there; without it, `.`",
     );
-    let command = with_argument(Ok(subcommand(alloc, "extract")), into);
+    let command = with_argument(Ok(begun(alloc, Subcommand::Extract)), into);
     let part = flag(
         alloc,
         "part",
@@ -253,7 +225,7 @@ fn with_leftovers<'a>(
 }
 
 /// Returns `map [--format FORMAT] FILE`.
-fn map<'a>(alloc: Global) -> Result<Command<'a>, AllocError>
+pub(crate) fn map<'a>(alloc: Global) -> Result<Command<'a>, AllocError>
     ensures { IsCommandMade map result }
 {
     let format = valued_option(
@@ -262,13 +234,13 @@ fn map<'a>(alloc: Global) -> Result<Command<'a>, AllocError>
         "FORMAT",
         "Form of the map: text or svg; without it, text",
     );
-    let command = with_argument(Ok(subcommand(alloc, "map")), format);
+    let command = with_argument(Ok(begun(alloc, Subcommand::Map)), format);
     let file = required_argument(alloc, "file", "FILE", "The image to draw");
     with_argument(command, file)
 }
 
 /// Returns `diff [--format FORMAT] OLD NEW`.
-fn diff<'a>(alloc: Global) -> Result<Command<'a>, AllocError>
+pub(crate) fn diff<'a>(alloc: Global) -> Result<Command<'a>, AllocError>
     ensures { IsCommandMade diff result }
 {
     let format = valued_option(
@@ -277,7 +249,7 @@ fn diff<'a>(alloc: Global) -> Result<Command<'a>, AllocError>
         "FORMAT",
         "Form of the output: text or json; without it, text",
     );
-    let command = with_argument(Ok(subcommand(alloc, "diff")), format);
+    let command = with_argument(Ok(begun(alloc, Subcommand::Diff)), format);
     let old = required_argument(alloc, "old", "OLD", "The image as it was");
     let command = with_argument(command, old);
     let new = required_argument(alloc, "new", "NEW", "The image as it is now");
@@ -285,10 +257,10 @@ fn diff<'a>(alloc: Global) -> Result<Command<'a>, AllocError>
 }
 
 /// `merge -o OUT [--plain] [--majority] [--first] [--format FORMAT] FILE..`.
-fn merge<'a>(alloc: Global) -> Result<Command<'a>, AllocError>
+pub(crate) fn merge<'a>(alloc: Global) -> Result<Command<'a>, AllocError>
     ensures { IsCommandMade merge result }
 {
-    let command = with_argument(Ok(subcommand(alloc, "merge")), out_option(alloc));
+    let command = with_argument(Ok(begun(alloc, Subcommand::Merge)), out_option(alloc));
     let plain = flag(alloc, "plain", "Leave out the read codes of the blocks");
     let command = with_argument(command, plain);
     let command = with_preference(alloc, command);
@@ -325,11 +297,11 @@ fn with_preference<'a>(
 }
 
 /// Returns `catalogue [--maps] [--title TEXT] [--links FOLDER]` with the names of files.
-fn catalogue<'a>(alloc: Global) -> Result<Command<'a>, AllocError>
+pub(crate) fn catalogue<'a>(alloc: Global) -> Result<Command<'a>, AllocError>
     ensures { IsCommandMade catalogue result }
 {
     let maps = flag(alloc, "maps", "Add a picture of the blocks of each image");
-    let command = with_argument(Ok(subcommand(alloc, "catalogue")), maps);
+    let command = with_argument(Ok(begun(alloc, Subcommand::Catalogue)), maps);
     let title = valued_option(
         alloc,
         "title",

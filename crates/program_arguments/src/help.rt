@@ -1,8 +1,15 @@
 //! The texts of the help, beside those of single arguments.
 
+ghost use Rattle.std.specs.Prelude.{◌≡◌};
+ghost use Rattle.program_arguments.specs.Subcommands.{name_for};
+
+use crate::subcommand::Subcommand;
+
 /// The help of a subcommand as a whole.
 #[derive(Clone, Copy)]
 pub(crate) struct Help {
+    /// The subcommand's name.
+    pub(crate) name: &'static str,
     /// What it does, in a line.
     pub(crate) about: &'static str,
     pub(crate) usage: &'static str,
@@ -11,71 +18,86 @@ pub(crate) struct Help {
     pub(crate) details: &'static str,
 }
 
-/// Returns the help of the subcommand with this name, or of the program if there is none.
-pub(crate) fn help_of(name: &str) -> Help {
-    match name {
-        "shell" => Help {
-            about: "Runs a script of commands on a disk image",
-            usage: SHELL_USAGE,
-            details: SHELL_DETAILS,
-        },
-        "petcat" => Help {
-            about: "Lists a BASIC program as text",
-            usage: PETCAT_USAGE,
-            details: PETCAT_DETAILS,
-        },
-        "crunch" => Help {
-            about: "Makes a BASIC program from a text",
-            usage: CRUNCH_USAGE,
-            details: CRUNCH_DETAILS,
-        },
-        "check" => Help {
-            about: "Says what is wrong on disk images, and where",
-            usage: CHECK_USAGE,
-            details: CHECK_DETAILS,
-        },
-        "files" => Help {
-            about: "Lists the files on disk images, and which are whole",
-            usage: FILES_USAGE,
-            details: FILES_DETAILS,
-        },
-        "extract" => Help {
-            about: "Writes the files on disk images to folders",
-            usage: EXTRACT_USAGE,
-            details: EXTRACT_DETAILS,
-        },
-        "map" => Help {
-            about: "Draws a map of the blocks of a disk image",
-            usage: MAP_USAGE,
-            details: MAP_DETAILS,
-        },
-        "diff" => Help {
-            about: "Says what changed from one disk image to another",
-            usage: DIFF_USAGE,
-            details: DIFF_DETAILS,
-        },
-        "merge" => Help {
-            about: "Makes one dump of several dumps of one disk",
-            usage: MERGE_USAGE,
-            details: MERGE_DETAILS,
-        },
-        "catalogue" => Help {
-            about: "Makes one page of what is on disk images, to browse and search",
-            usage: CATALOGUE_USAGE,
-            details: CATALOGUE_DETAILS,
-        },
-        _ => Help {
-            about: ABOUT,
-            usage: "d64sh <COMMAND>",
-            details: DETAILS,
-        },
+impl Subcommand {
+    /// Returns the help of the subcommand: its row.
+    pub(crate) fn help(self) -> Help
+        ensures { result.name.now ≡ name_for self }
+    {
+        match self {
+            Subcommand::Shell => Help {
+                name: "shell",
+                about: "Runs a script of commands on a disk image",
+                usage: SHELL_USAGE,
+                details: SHELL_DETAILS,
+            },
+            Subcommand::Petcat => Help {
+                name: "petcat",
+                about: "Lists a BASIC program as text",
+                usage: PETCAT_USAGE,
+                details: PETCAT_DETAILS,
+            },
+            Subcommand::Crunch => Help {
+                name: "crunch",
+                about: "Makes a BASIC program from a text",
+                usage: CRUNCH_USAGE,
+                details: CRUNCH_DETAILS,
+            },
+            Subcommand::Check => Help {
+                name: "check",
+                about: "Says what is wrong on disk images, and where",
+                usage: CHECK_USAGE,
+                details: CHECK_DETAILS,
+            },
+            Subcommand::Files => Help {
+                name: "files",
+                about: "Lists the files on disk images, and which are whole",
+                usage: FILES_USAGE,
+                details: FILES_DETAILS,
+            },
+            Subcommand::Extract => Help {
+                name: "extract",
+                about: "Writes the files on disk images to folders",
+                usage: EXTRACT_USAGE,
+                details: EXTRACT_DETAILS,
+            },
+            Subcommand::Map => Help {
+                name: "map",
+                about: "Draws a map of the blocks of a disk image",
+                usage: MAP_USAGE,
+                details: MAP_DETAILS,
+            },
+            Subcommand::Diff => Help {
+                name: "diff",
+                about: "Says what changed from one disk image to another",
+                usage: DIFF_USAGE,
+                details: DIFF_DETAILS,
+            },
+            Subcommand::Merge => Help {
+                name: "merge",
+                about: "Makes one dump of several dumps of one disk",
+                usage: MERGE_USAGE,
+                details: MERGE_DETAILS,
+            },
+            Subcommand::Catalogue => Help {
+                name: "catalogue",
+                about: "Makes one page of what is on disk images, to browse and search",
+                usage: CATALOGUE_USAGE,
+                details: CATALOGUE_DETAILS,
+            },
+        }
     }
 }
 
-const ABOUT: &str = "Looks at and changes D64 images of Commodore 1541 disks, with undo, and turns
+/// What the program does.
+pub(crate) const ABOUT: &str =
+    "Looks at and changes D64 images of Commodore 1541 disks, with undo, and turns
 BASIC V2 programs into text and back.";
 
-const DETAILS: &str = "Examples:
+/// The usage of the program.
+pub(crate) const USAGE: &str = "d64sh <COMMAND>";
+
+/// The text of the program's help after the list of subcommands.
+pub(crate) const DETAILS: &str = "Examples:
   d64sh shell -c list disk.d64       prints what is on a disk
   d64sh crunch game.bas -o game.prg  makes a program of a text
 

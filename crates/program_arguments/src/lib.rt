@@ -9,6 +9,7 @@ mod help;
 mod jobs;
 mod merging;
 mod reading;
+mod subcommand;
 mod surveys;
 mod tips;
 mod values;
@@ -18,3 +19,4 @@ pub use jobs::{
     Separator,
 };
 pub use reading::job;
+pub use subcommand::Subcommand;

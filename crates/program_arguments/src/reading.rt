@@ -4,16 +4,14 @@ ghost use Rattle.std.specs.Prelude.{◌≡◌, IfOk, IfErr, MatchOption, codes, 
 ghost use Rattle.std.specs.Char.{is_ascii_hexdigit};
 ghost use Rattle.std.specs.List.{list_all};
 ghost use Rattle.clap.specs.Words.{found_of, first_of, kind_of, rows_of};
-ghost use Rattle.program_arguments.specs.Requested.{IsWhole, IsJob, IsJobOf, IsFault, IsFaultOf};
+ghost use Rattle.program_arguments.specs.Requested.{IsJob, IsJobOf, IsFault, IsFaultOf};
 ghost use Rattle.program_arguments.specs.Start.{IsAddress, address_of, IsStartBy, HasNoAddress};
 ghost use Rattle.program_arguments.specs.Tracks.{track_count, IsTracksBy, HasNoTracks};
 ghost use Rattle.program_arguments.specs.declared.jobs.JobFault.TheVariants.{Start, Tracks};
 
 use crate::command;
-use crate::dumps::{diff_job, map_job};
 use crate::jobs::{Job, JobFault};
-use crate::merging::merge_job;
-use crate::surveys::{catalogue_job, check_job, extract_job, files_job};
+use crate::subcommand::Subcommand;
 use crate::tips::{message_of, with_tip};
 use crate::values::{given, has_flag, value, values};
 use clap::error::ErrorKind;
@@ -50,12 +48,14 @@ pub fn job(alloc: Global, words: &[&str]) -> Result<Job, JobFault>
     let Some(name) = words.get(1) else {
         return program_job(alloc, words);
     };
-    let Some(command) = command::named(alloc, name)? else {
+    let Some(subcommand) = Subcommand::named(name) else {
         return program_job(alloc, words);
     };
-    match command.try_get_matches_from(&words[1..]) {
-        Ok(arguments) => job_of(alloc, name, &arguments),
-        Err(error) => Err(JobFault::from(explained(alloc, words, name, error)?)),
+    // it makes of the arguments from its name on what `d64sh` makes of all arguments, and the
+    // options of the other subcommands are not made for it
+    match subcommand.command(alloc)?.try_get_matches_from(&words[1..]) {
+        Ok(arguments) => subcommand.job(alloc, &arguments),
+        Err(error) => Err(JobFault::from(explained(alloc, words, subcommand, error)?)),
     }
 }
 
@@ -72,52 +72,45 @@ fn program_job(alloc: Global, words: &[&str]) -> Result<Job, JobFault>
     let Some((name, arguments)) = matches.subcommand() else {
         unreachable!()
     };
-    job_of(alloc, name, arguments)
+    let Some(subcommand) = Subcommand::named(name) else {
+        unreachable!()
+    };
+    subcommand.job(alloc, arguments)
 }
 
 /// Returns the error of a subcommand, with its usage if `clap` prints none, or with a tip if
 /// `shell` was probably meant otherwise.
-fn explained(alloc: Global, words: &[&str], name: &str, error: Error) -> Result<Error, AllocError>
+fn explained(
+    alloc: Global,
+    words: &[&str],
+    subcommand: Subcommand,
+    error: Error,
+) -> Result<Error, AllocError>
     ensures { IfOk result (λ reported. kind_of reported ≡ kind_of error) }
 {
     if error.kind() == ErrorKind::InvalidValue {
-        with_usage(alloc, name, &error)
+        with_usage(alloc, subcommand, &error)
     } else {
         with_tip(alloc, words, error)
     }
 }
 
-/// Returns the error that an option lacks its value, with the usage of the subcommand with this
-/// name: `clap` prints no usage for that error.
-fn with_usage(alloc: Global, name: &str, error: &Error) -> Result<Error, AllocError>
+/// Returns the error that an option lacks its value, with the usage of the subcommand: `clap`
+/// prints no usage for that error.
+fn with_usage(alloc: Global, subcommand: Subcommand, error: &Error) -> Result<Error, AllocError>
     ensures { IfOk result (λ reported. kind_of reported ≡ kind_of error.now) }
 {
     let text = format!(in alloc; "{error}")?;
-    command::error(alloc, name, error.kind(), message_of(text.as_str()))
-}
-
-/// Returns the job that a subcommand with these matches asks for.
-fn job_of(alloc: Global, name: &str, arguments: &ArgMatches) -> Result<Job, JobFault>
-    requires { IsWhole (name.now, rows_of (found_of arguments.now)) }
-    ensures job { IfOk result (IsJobOf (name.now, rows_of (found_of arguments.now))) }
-    ensures fault { IfErr result (IsFaultOf (name.now, rows_of (found_of arguments.now))) }
-{
-    match name {
-        "shell" => shell_job(alloc, arguments),
-        "petcat" => petcat_job(alloc, arguments),
-        "crunch" => crunch_job(alloc, arguments),
-        "check" => check_job(alloc, arguments),
-        "files" => files_job(alloc, arguments),
-        "extract" => extract_job(alloc, arguments),
-        "map" => map_job(alloc, arguments),
-        "diff" => diff_job(alloc, arguments),
-        "merge" => merge_job(alloc, arguments),
-        _ => catalogue_job(alloc, arguments),
-    }
+    command::error(
+        alloc,
+        subcommand.help().usage,
+        error.kind(),
+        message_of(text.as_str()),
+    )
 }
 
 /// Returns the job that `shell` with these matches asks for.
-fn shell_job(alloc: Global, arguments: &ArgMatches) -> Result<Job, JobFault>
+pub(crate) fn shell_job(alloc: Global, arguments: &ArgMatches) -> Result<Job, JobFault>
     ensures job { IfOk result (IsJobOf (codes "shell", rows_of (found_of arguments.now))) }
     ensures fault { IfErr result (IsFaultOf (codes "shell", rows_of (found_of arguments.now))) }
 {
@@ -136,7 +129,7 @@ fn shell_job(alloc: Global, arguments: &ArgMatches) -> Result<Job, JobFault>
 }
 
 /// Returns the job that `petcat` with these matches asks for.
-fn petcat_job(alloc: Global, arguments: &ArgMatches) -> Result<Job, JobFault>
+pub(crate) fn petcat_job(alloc: Global, arguments: &ArgMatches) -> Result<Job, JobFault>
     ensures job { IfOk result (IsJobOf (codes "petcat", rows_of (found_of arguments.now))) }
     ensures fault { IfErr result (IsFaultOf (codes "petcat", rows_of (found_of arguments.now))) }
 {
@@ -147,7 +140,7 @@ fn petcat_job(alloc: Global, arguments: &ArgMatches) -> Result<Job, JobFault>
 }
 
 /// Returns the job that `crunch` with these matches asks for.
-fn crunch_job(alloc: Global, arguments: &ArgMatches) -> Result<Job, JobFault>
+pub(crate) fn crunch_job(alloc: Global, arguments: &ArgMatches) -> Result<Job, JobFault>
     ensures job { IfOk result (IsJobOf (codes "crunch", rows_of (found_of arguments.now))) }
     ensures fault { IfErr result (IsFaultOf (codes "crunch", rows_of (found_of arguments.now))) }
 {

@@ -5,6 +5,8 @@ ghost use Rattle.std.specs.Prelude.{◌≡◌, IfOk};
 ghost use Rattle.clap.specs.Words.{kind_of};
 
 use crate::command;
+use crate::help::USAGE;
+use crate::subcommand::Subcommand;
 use clap::Error;
 use clap::error::ErrorKind;
 use std::alloc::{AllocError, Global};
@@ -15,8 +17,8 @@ const SHOWN_CHARACTERS: usize = 64;
 /// What was probably meant: the shell, on an image, with a line to run.
 #[derive(Clone, Copy)]
 struct Intent<'a> {
-    /// The name of the subcommand whose error it is, empty for the program's own.
-    subcommand: &'static str,
+    /// The usage of the subcommand whose error it is, or of the program for its own.
+    usage: &'static str,
     image: &'a str,
     /// The arguments after the image, of which the line consists.
     rest: &'a [&'a str],
@@ -37,18 +39,18 @@ fn intent_of<'a>(words: &'a [&'a str], kind: ErrorKind) -> Option<Intent<'a>> {
     match words {
         [_, image, rest @ ..] if kind == ErrorKind::InvalidSubcommand && is_path_like(image) => {
             Some(Intent {
-                subcommand: "",
+                usage: USAGE,
                 image,
                 rest,
             })
         }
         [_, name, image, first, ..]
             if kind == ErrorKind::UnknownArgument
-                && *name == "shell"
+                && *name == Subcommand::Shell.name()
                 && is_plain(image)
                 && is_plain(first) => {
             Some(Intent {
-                subcommand: "shell",
+                usage: Subcommand::Shell.help().usage,
                 image,
                 rest: &words[3..],
             })
@@ -132,7 +134,7 @@ pub(crate) fn with_tip(alloc: Global, words: &[&str], error: Error) -> Result<Er
         "{}\n\n  tip: to run a line on an image: {tip}",
         message_of(text.as_str())
     )?;
-    command::error(alloc, intent.subcommand, error.kind(), message.as_str())
+    command::error(alloc, intent.usage, error.kind(), message.as_str())
 }
 
 /// Returns the message of an error of `clap`: its first line, after `error: `.

@@ -4,5 +4,5 @@ use Rattle.program_arguments.proofs.command.check.Goals as goal
 
 pub returns : goal.returns
 returns c =
-    let digest = c.with_argument-command.ensures _ (flag (codes "digest")) (c.subcommand.ensures.app, c.subcommand.ensures.local) (c.flag-digest.ensures.rule, c.flag-digest.ensures.local) in
+    let digest = c.with_argument-command.ensures _ (flag (codes "digest")) (c.begun.ensures.app, c.begun.ensures.local) (c.flag-digest.ensures.rule, c.flag-digest.ensures.local) in
     c.survey.ensures _ digest
