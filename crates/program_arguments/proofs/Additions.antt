@@ -8,8 +8,9 @@ use Rattle.clap.specs.Built.{AddsArg}
 use Rattle.clap.specs.declared.builder.arg.Arg.{Arg}
 use Rattle.clap.specs.declared.builder.command.Command.{Command}
 use Rattle.program_arguments.specs.Commands.{bare_app}
-use Rattle.program_arguments.specs.Making.{IsArgument, IsCommand}
+use Rattle.program_arguments.specs.Making.{IsArgument, IsCommand, rule_for, with_rules}
 use Rattle.program_arguments.specs.Subcommands.{app_for}
+use Rattle.program_arguments.specs.declared.arguments.Argument.{Argument}
 use Rattle.program_arguments.specs.declared.subcommand.Subcommand.{Subcommand}
 use Rattle.program_arguments.specs.declared.subcommand.Subcommand.TheVariants.{Shell}
 
@@ -30,3 +31,8 @@ pub with_next : (subcommands : List Subcommand) (i : ℕ) → i < length subcomm
     → with_these (take (i + 1) subcommands) ≡ with_subcommand (with_these (take i subcommands)) (app_for (slice_index_or subcommands i Shell)).top
 with_next subcommands i within =
     ap with_these (take_more subcommands i Shell within) ∙ fold-append (λ command subcommand. with_subcommand command (app_for subcommand).top) bare_app (take i subcommands) (slice_index_or subcommands i Shell ∷ [])
+
+pub with_more : (app : App) (arguments : List Argument) (i : ℕ) (other : Argument) → i < length arguments
+    → with_rules app (take (i + 1) arguments) ≡ with_rule (with_rules app (take i arguments)) (rule_for (slice_index_or arguments i other))
+with_more app arguments i other within =
+    ap (with_rules app) (take_more arguments i other within) ∙ fold-append (λ below argument. with_rule below (rule_for argument)) app (take i arguments) (slice_index_or arguments i other ∷ [])

@@ -2,6 +2,7 @@
 //! arguments are refused.
 #![tactic(auto)]
 
+mod arguments;
 mod command;
 mod dumps;
 mod forms;

@@ -3,7 +3,7 @@ use Rattle.std.proofs.Common.{Some, ap, ◌∙◌}
 use Rattle.clap.specs.Words.{Rule, rule_of}
 use Rattle.clap.specs.declared.builder.action.ArgAction.TheVariants.{Append}
 use Rattle.clap.specs.declared.builder.arg.Arg.{Arg}
-use Rattle.program_arguments.proofs.command.line_option.Goals as goal
+use Rattle.program_arguments.proofs.arguments.line_option.Goals as goal
 
 pub returns-clause-rule : goal.returns-clause-rule
 returns-clause-rule c =
