@@ -1,5 +1,5 @@
 -- Runs of the job of the shell.
-use Rattle.std.proofs.Common.{◌≡◌, ℕ, List, [], ◌++◌, take, Bor, Option, None, Some, Result, Ok, Err, true, inl, inr, refl, sym, ap, subst, option_copied, unwrap_or}
+use Rattle.std.proofs.Common.{◌≡◌, ℕ, List, [], ◌++◌, take, Option, Some, Result, Ok, Err, true, inl, inr, refl, sym, ap, subst}
 use Rattle.std.specs.Io.KnownBytes.{Keeps}
 use Rattle.std.proofs.KnownBytes.{Appends-kept}
 use Rattle.script_text.specs.RawLines.{lines_of, ended_lines}
@@ -7,7 +7,7 @@ use Rattle.script_text.specs.Input.{Reading, input_limit}
 use Rattle.script_text.specs.Output.{Account}
 use Rattle.host_storage.specs.Files.{HostState}
 use Rattle.d64_undo.specs.History.{History}
-use Rattle.cmd_shell.specs.Beginnings.{Beginning, Blank, ImageFile, SessionFile, Source, Input, Given, home_of}
+use Rattle.cmd_shell.specs.Beginnings.{Beginning, Blank, ImageFile, SessionFile, Source, Input, Given}
 use Rattle.cmd_shell.specs.ShellRuns.{GivesNoImage, GivesNoSession, HasNoHistory, HasNoText, IsDue, IsFirstHistory, IsReadDue, RanFrom, RanShell, IsRunReportedAs, StoppedBy}
 use Rattle.program_console.specs.Outside.{Outside, outside_of}
 use Rattle.program_exit.specs.Faults.{fault_of_file, fault_of_resume, fault_of_run}
@@ -22,11 +22,6 @@ use Rattle.script_run.specs.Transcript.{RunOptions, RunProgress}
 use Rattle.script_run.specs.declared.runner.Outcome.{Outcome}
 use Rattle.script_run.specs.declared.runner.ShellFault.{ShellFault}
 use Rattle.script_run.specs.declared.runner.ShellFault.TheVariants.{Read, Write, Memory}
-
--- the file that `save` stores to by default
-pub home_is : (name : Option (Bor (List ℕ))) (empty : Bor (List ℕ)) → empty.now ≡ [] → (unwrap_or name empty).now ≡ home_of (option_copied name)
-home_is None empty e = e
-home_is (Some name) empty e = refl
 
 -- lines have run also after the output was flushed
 RanLines-flushed : (options : RunOptions) (old new : ScriptState) (lines : List (List ℕ)) (after : RunProgress) (flushed : Option (List ℕ))

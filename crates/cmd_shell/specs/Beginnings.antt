@@ -17,11 +17,6 @@ beginning_of image tracks (Some file) = SessionFile file
 beginning_of (Some name) tracks None = ImageFile name
 beginning_of None tracks None = Blank tracks
 
--- the file that `save` stores to by default: the image file, if there is one
-abbrev pub home_of : Option (List ℕ) → List ℕ
-home_of None = []
-home_of (Some name) = name
-
 -- where a script comes from: the input, or the text that the arguments give
 pub data Source : Type 0 where
   Input : Source

@@ -1,7 +1,8 @@
 -- The script that the arguments ask for, by the fields of `ShellJob`.
 use Rattle.std.specs.Prelude.{map, option_copied, string_bytes}
-use Rattle.script_run.specs.Transcript.{RunOptions}
-use Rattle.cmd_shell.specs.Beginnings.{Beginning, Source, beginning_of, home_of, source_of}
+use Rattle.std.specs.Option.{option_and_then}
+use Rattle.script_run.specs.Transcript.{RunOptions, home_of}
+use Rattle.cmd_shell.specs.Beginnings.{Beginning, Source, beginning_of, source_of}
 use Rattle.cmd_shell.specs.declared.shell_job.ShellJob.{ShellJob}
 
 -- what it begins with
@@ -12,6 +13,6 @@ beginning_in job = beginning_of (option_copied job.image) job.tracks (option_cop
 abbrev pub source_in : ShellJob → Source
 source_in job = source_of (map string_bytes job.lines.now)
 
--- how it is run
+-- how it is run: by default `save` stores in the image file, if there is one
 abbrev pub options_in : ShellJob → RunOptions
-options_in job = record { home = home_of (option_copied job.image); refusals = job.refusals }
+options_in job = record { home = option_and_then home_of (option_copied job.image); refusals = job.refusals }

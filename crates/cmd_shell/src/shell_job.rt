@@ -17,7 +17,9 @@ use d64_undo::{Session, SessionReadFault, resume_from};
 use host_storage::{Host, HostFault};
 use program_console::Console;
 use program_exit::{ALL_ACCEPTED, ProgramFault, SOME_REFUSED, fetch_file};
-use script_run::{Observer, Opening, Outcome, Refusals, RunOptions, ScriptRunner, ShellFault};
+use script_run::{
+    Observer, Opening, Outcome, Refusals, RunOptions, ScriptRunner, ShellFault, home_of,
+};
 use std::alloc::{AllocError, Global};
 use std::io::{Read, Write};
 
@@ -76,12 +78,12 @@ impl<'n> ShellJob<'n> {
             alloc,
             text: text.as_deref(),
             options: RunOptions {
-                home: self.image.unwrap_or(""),
+                home: self.home(),
                 refusals: self.refusals,
             },
         };
         let ran = script.run(console, host, &mut session, observer);
-        observer.end(self.image.unwrap_or(""), &session);
+        observer.end(self.home(), &session);
         match console.outputs.output.flush() {
             Ok(()) => Ok(ran?),
             Err(_) => Err(ProgramFault::Write),
@@ -90,11 +92,21 @@ impl<'n> ShellJob<'n> {
 }
 
 impl<'n> ShellJob<'n> {
+    /// Returns the name of the host file in which `save` stores by default, if there is one.
+    fn home(&self) -> Option<&'n str>
+        ensures { option_copied result ≡ (options_in self.now).home }
+    {
+        match self.image {
+            Some(name) => home_of(name),
+            None => None,
+        }
+    }
+
     /// Returns what the observer gets at the session's begin.
     fn opening(&self) -> Opening<'n> {
         Opening {
-            home: self.image.unwrap_or(""),
-            held_in: self.resume.or(self.image).unwrap_or(""),
+            home: self.home(),
+            held_in: self.resume.or(self.image),
             is_given: !self.lines.is_empty(),
             refusals: self.refusals,
         }

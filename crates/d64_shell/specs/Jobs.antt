@@ -1,9 +1,10 @@
 -- What each job does.
 use Rattle.std.specs.Prelude.{◌≡◌, ℕ, true, List, [], ◌∷◌, Option, ⊤, map, option_map, string_bytes}
+use Rattle.std.specs.Option.{option_and_then}
 use Rattle.program_arguments.specs.declared.jobs.Job.{Job}
 use Rattle.program_surveys.specs.SurveyFiles.{SurveyFiles, Named, survey_files_of}
 use Rattle.program_surveys.specs.Comparisons.{PairRule}
-use Rattle.script_run.specs.Transcript.{RunOptions}
+use Rattle.script_run.specs.Transcript.{RunOptions, home_of}
 use Rattle.cmd_basic.specs.declared.tools.Tool.{Tool}
 use Rattle.program_arguments.specs.declared.jobs.Job.TheVariants.{Shell, Petcat, Crunch, Check, Files, Extract, Map, Catalogue, Diff, Merge}
 use Rattle.program_arguments.specs.declared.jobs.Extraction.{Extraction as RequestedExtraction}
@@ -22,7 +23,7 @@ use Rattle.cmd_catalogue.specs.Catalogue.{catalogue_rule, catalogue_heading}
 use Rattle.cmd_diff.specs.Differences.{difference_rule}
 use Rattle.cmd_merge.specs.Setup.{MergeSetupView as MergeView}
 use Rattle.cmd_basic.specs.declared.tools.Tool.TheVariants as tools
-use Rattle.cmd_shell.specs.Beginnings.{Beginning, beginning_of, home_of, Source, source_of, refusals_of}
+use Rattle.cmd_shell.specs.Beginnings.{Beginning, beginning_of, Source, source_of, refusals_of}
 
 -- what is printed of files, in a format, and of what is left over beside them
 abbrev pub form_of : Format → Leftovers → Form
@@ -58,7 +59,7 @@ pub data JobWork : Type 0 where
 abbrev pub work_of : Job → JobWork
 work_of (Shell image tracks resume lines stops) =
     Script (beginning_of (option_map string_bytes image) tracks (option_map string_bytes resume)) (source_of (map string_bytes lines.items))
-    (record { home = home_of (option_map string_bytes image); refusals = refusals_of stops })
+    (record { home = option_and_then home_of (option_map string_bytes image); refusals = refusals_of stops })
 work_of (Petcat file output) = Conversion tools.Petcat (option_map string_bytes file) (option_map string_bytes output)
 work_of (Crunch start file output) = Conversion (tools.Crunch start) (option_map string_bytes file) (option_map string_bytes output)
 work_of (Check digest format names) = Survey (check_rule format digest) (check_heading format digest) (survey_files_of names)

@@ -8,7 +8,7 @@ use Rattle.script_commands.specs.Act.{Act, Refuse, Does, Ending, LineAnswer, Wor
 use Rattle.script_commands.specs.Line.{act_of_line, act_of_text, IsAnswered}
 
 -- what a line asks for whose text is known
-pub act_of_line-text : (home raw text : List ℕ) (history : History) → is_too_long raw ≡ false → text_of raw ≡ text
+pub act_of_line-text : (home : Option (List ℕ)) (raw text : List ℕ) (history : History) → is_too_long raw ≡ false → text_of raw ≡ text
     → act_of_line home history raw ≡ cond (is_skipped text) None (Some (act_of_text home history text))
 unfolding act_of_line
 act_of_line-text home raw text history short is_text =
@@ -16,7 +16,7 @@ act_of_line-text home raw text history short is_text =
     ap (λ b. cond b (Some (Refuse LongLine)) (asked (text_of raw))) short ∙ ap asked is_text
 
 -- what runs the text of a line runs the line
-pub IsAnswered-text : (home raw text : List ℕ) (history : History) (world : World) (answer said : LineAnswer) (after : World)
+pub IsAnswered-text : (home : Option (List ℕ)) (raw text : List ℕ) (history : History) (world : World) (answer said : LineAnswer) (after : World)
     → is_too_long raw ≡ false → text_of raw ≡ text → is_skipped text ≡ false
     → answer ≡ said → Does (act_of_text home history text) world said after
     → IsAnswered home history raw world answer after

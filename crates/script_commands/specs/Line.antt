@@ -218,9 +218,9 @@ rename_act history (old_word, new_word) = do
   run history (changes.Rename old new)
 
 -- `save`: stores the image in a host file, by default in its own, if it has one
-abbrev pub save_act : Bytes → History → Option Bytes → Act Ending
-save_act [] history None = Refuse MissingWord
-save_act home history None = put history home (bytes_of (present_image history))
+abbrev pub save_act : Option Bytes → History → Option Bytes → Act Ending
+save_act None history None = Refuse MissingWord
+save_act (Some home) history None = put history home (bytes_of (present_image history))
 save_act home history (Some host) = do
   name ← value_or_refusal (host_in host)
   put history name (bytes_of (present_image history))
@@ -303,7 +303,7 @@ file_commands history words =
     ∷ []
 
 -- the commands that fetch or store a block, the image or the session
-abbrev pub host_commands : Bytes → History → List Bytes → List (Bytes × Act Ending)
+abbrev pub host_commands : Option Bytes → History → List Bytes → List (Bytes × Act Ending)
 host_commands home history words =
     (codes "bread", word_and (word_and one_word) words >>= block_read_act history)
     ∷ (codes "bwrite", word_and (word_and one_word) words >>= block_write_act history)
@@ -312,7 +312,7 @@ host_commands home history words =
     ∷ []
 
 -- all commands
-abbrev pub commands : Bytes → History → List Bytes → List (Bytes × Act Ending)
+abbrev pub commands : Option Bytes → History → List Bytes → List (Bytes × Act Ending)
 commands home history words =
     map (λ row. (row.0, after_no_word words row.1)) (lone_commands history) ++ disk_commands history words ++ file_commands history words ++ host_commands home history words
 
@@ -325,27 +325,27 @@ abbrev pub act_in : List (Bytes × Act Ending) → Bytes → Act Ending
 act_in rows command = option_map_or (λ row. row.1) (row_of command rows) (Refuse UnknownCommand)
 
 -- the act of a line, by its command and arguments
-abbrev pub act_of_words : Bytes → History → List Bytes → Act Ending
+abbrev pub act_of_words : Option Bytes → History → List Bytes → Act Ending
 act_of_words home history [] = Refuse UnknownCommand
 act_of_words home history (first ∷ words) = act_in (commands home history words) first
 
 -- the act of the text of a line
-abbrev pub act_of_text : Bytes → History → Bytes → Act Ending
+abbrev pub act_of_text : Option Bytes → History → Bytes → Act Ending
 act_of_text home history line = do
   words ← value_or_refusal (ok_or (words_of_line line) SyntaxError)
   act_of_words home history words
 
 -- the act of a line of the script; None if it is skipped
-unfoldable pub act_of_line : Bytes → History → Bytes → Option (Act Ending)
+unfoldable pub act_of_line : Option Bytes → History → Bytes → Option (Act Ending)
 act_of_line home history line =
     if is_too_long line then Some (Refuse LongLine)
     else (if is_skipped (text_of line) then None else Some (act_of_text home history (text_of line)))
 
 -- a line is skipped: it has no command, and nothing changes
-abbrev pub IsSkipped : Bytes → History → Bytes → World → World → Type 0
+abbrev pub IsSkipped : Option Bytes → History → Bytes → World → World → Type 0
 IsSkipped home history line world after = (act_of_line home history line ≡ None) × (after ≡ world)
 
 -- a line has an act, which is done with a response
-abbrev pub IsAnswered : Bytes → History → Bytes → World → LineAnswer → World → Type 0
+abbrev pub IsAnswered : Option Bytes → History → Bytes → World → LineAnswer → World → Type 0
 IsAnswered home history line world answer after =
     MatchOption (act_of_line home history line) ⊥ (λ act. Does act world answer after)

@@ -1,5 +1,5 @@
 -- The act of a line as the code has it, and arguments as they were read.
-use Rattle.std.specs.Prelude.{map, option_map, Result, Ok, Err}
+use Rattle.std.specs.Prelude.{map, Option, option_map, Result, Ok, Err}
 use Rattle.d64_image.specs.Disk.{Bytes}
 use Rattle.d64_undo.specs.History.{History}
 use Rattle.script_text.specs.declared.status.Status.{Status}
@@ -9,7 +9,7 @@ use Rattle.script_commands.specs.declared.line.Line.{Line}
 use Rattle.script_commands.specs.declared.line.Line.TheVariants.{Block, BlockRead, BlockWrite, Crunch, Delete, Format, ListHistory, Keep, ListDirectory, Name, Petcat, Quit, Read, Redo, Rename, Save, ShowText, Undelete, Undo, Validate, Write}
 
 -- the act of a line
-abbrev pub act_of : Bytes → History → Line → Act Ending
+abbrev pub act_of : Option Bytes → History → Line → Act Ending
 act_of home history (Block track sector) = block_act history (track.now, sector.now)
 act_of home history (BlockRead host track sector) = block_read_act history (host.now, (track.now, sector.now))
 act_of home history (BlockWrite host track sector) = block_write_act history (host.now, (track.now, sector.now))
@@ -33,7 +33,7 @@ act_of home history Validate = validate_act history
 act_of home history (Write host name) = write_act history (host.now, option_map (λ word. word.now) name)
 
 -- the act of a line that was read, or the status that refuses its arguments
-abbrev pub act_of_result : Bytes → History → Result Line Status → Act Ending
+abbrev pub act_of_result : Option Bytes → History → Result Line Status → Act Ending
 act_of_result home history (Ok line) = act_of home history line
 act_of_result home history (Err status) = Refuse status
 

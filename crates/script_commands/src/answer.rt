@@ -1,7 +1,7 @@
 //! What a line of a script does and prints, and the handler of its command.
 #![tactic(auto, unfolding(crate::specs::Act::Does, crate::specs::Line::act_of_line))]
 
-ghost use Rattle.std.specs.Prelude.{◌≡◌, ◌≤◌, ℕ, List, All, map, length, MatchOption};
+ghost use Rattle.std.specs.Prelude.{◌≡◌, ◌≤◌, ℕ, List, All, map, length, MatchOption, option_copied};
 ghost use Rattle.script_text.specs.HeldLine.{HoldsText};
 ghost use Rattle.script_text.specs.Words.{IsPrintable};
 ghost use Rattle.d64_undo.specs.History.{present_image};
@@ -29,19 +29,19 @@ const FEW_WORDS: usize = 4;
 /// Runs a line that was read to its end. Returns the response, or None if the line is skipped: an
 /// empty line, or a comment.
 ///
-/// `home` is the name of the host file in which `save` stores by default, or empty.
+/// `home` is the name of the host file in which `save` stores by default, if there is one.
 pub fn answer_line<H: Host>(
     alloc: Global,
     host: &mut H,
-    home: &str,
+    home: Option<&str>,
     session: &mut Session,
     line: &HeldLine,
 ) -> Option<Response>
     ensures { (raw : List ℕ) → HoldsText line.now raw → MatchOption result
-        (IsSkipped home.now session.old raw
+        (IsSkipped (option_copied home.entry) session.old raw
         (world_of (H.state host.old) session.old)
         (world_of (H.state host.new) session.new))
-        (λ response. IsAnswered home.now session.old raw
+        (λ response. IsAnswered (option_copied home.entry) session.old raw
         (world_of (H.state host.old) session.old)
         (shown_answer (present_image session.new) response)
         (world_of (H.state host.new) session.new)) }
@@ -60,12 +60,12 @@ pub fn answer_line<H: Host>(
 fn answer_text<H: Host>(
     alloc: Global,
     host: &mut H,
-    home: &str,
+    home: Option<&str>,
     session: &mut Session,
     text: &[u8],
 ) -> Result<Response, Status>
     requires { length text.now ≤ 1024 }
-    ensures { Responds (act_of_text home.now session.old text.now) (H.state host.old) session.old result (H.state host.new) session.new }
+    ensures { Responds (act_of_text (option_copied home.entry) session.old text.now) (H.state host.old) session.old result (H.state host.new) session.new }
 {
     let Ok(words) = Words::of(text) else {
         return Err(Status::SyntaxError);
@@ -86,13 +86,13 @@ fn answer_text<H: Host>(
 fn answer_many<H: Host>(
     alloc: Global,
     host: &mut H,
-    home: &str,
+    home: Option<&str>,
     session: &mut Session,
     words: Words,
 ) -> Result<Response, Status>
     requires len { length words ≤ 512 }
     requires printable { All (All IsPrintable) words }
-    ensures { Responds (act_of_words home.now session.old words.entry) (H.state host.old) session.old result (H.state host.new) session.new }
+    ensures { Responds (act_of_words (option_copied home.entry) session.old words.entry) (H.state host.old) session.old result (H.state host.new) session.new }
 {
     let many = held::<MAX_WORDS>(words);
     answer_arguments(alloc, host, home, session, many.as_slice())
@@ -115,11 +115,11 @@ fn held<'a, const ROOM: usize>(words: Words<'a>) -> ArrayVec<&'a str, ROOM>
 fn answer_arguments<H: Host>(
     alloc: Global,
     host: &mut H,
-    home: &str,
+    home: Option<&str>,
     session: &mut Session,
     words: &[&str],
 ) -> Result<Response, Status>
-    ensures { Responds (act_of_words home.now session.old (map (λ word. word.now) words.now)) (H.state host.old) session.old result (H.state host.new) session.new }
+    ensures { Responds (act_of_words (option_copied home.entry) session.old (map (λ word. word.now) words.now)) (H.state host.old) session.old result (H.state host.new) session.new }
 {
     match Line::of(words) {
         Ok(line) => answer(alloc, host, home, session, line),
@@ -131,11 +131,11 @@ fn answer_arguments<H: Host>(
 fn answer<H: Host>(
     alloc: Global,
     host: &mut H,
-    home: &str,
+    home: Option<&str>,
     session: &mut Session,
     line: Line,
 ) -> Result<Response, Status>
-    ensures { Responds (act_of home.now session.old line.entry) (H.state host.old) session.old result (H.state host.new) session.new }
+    ensures { Responds (act_of (option_copied home.entry) session.old line.entry) (H.state host.old) session.old result (H.state host.new) session.new }
 {
     match line {
         Line::Block { track, sector } => handlers::block(session, track, sector),

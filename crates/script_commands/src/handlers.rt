@@ -1,7 +1,7 @@
 //! The effect of each command: a handler for each.
 #![tactic(auto, unfolding(crate::specs::Act::Does))]
 
-ghost use Rattle.std.specs.Prelude.{◌≡◌, ◌<◌, ◌≤◌, All, Some, None, [], map, option_map, length};
+ghost use Rattle.std.specs.Prelude.{◌≡◌, ◌<◌, ◌≤◌, All, Some, None, [], map, option_copied, option_map, length};
 ghost use Rattle.d64_dos.specs.Change.{change_of};
 ghost use Rattle.d64_dos.specs.Command.{IsWithin};
 ghost use Rattle.script_commands.specs.Response.{Responds, RespondsAlone};
@@ -342,21 +342,20 @@ pub(crate) fn rename(
     run_command(session, &Command::Rename { old, new })
 }
 
-/// `save`: stores the image in a host file, by default its own. If it has none, an argument is
+/// `save`: stores the image in a host file, by default in `home`. If there is none, an argument is
 /// missing.
 pub(crate) fn save<H: Host>(
     alloc: Global,
     host: &mut H,
-    home: &str,
+    home: Option<&str>,
     session: &Session,
     name: Option<&str>,
 ) -> Result<Response, Status>
-    ensures { Responds (save_act home.now session.now (option_map (λ word. word.now) name.entry)) (H.state host.old) session.now result (H.state host.new) session.now }
+    ensures { Responds (save_act (option_copied home.entry) session.now (option_map (λ word. word.now) name.entry)) (H.state host.old) session.now result (H.state host.new) session.now }
 {
     let name = match name {
         Some(word) => host_in(word)?,
-        None if home.is_empty() => return Err(Status::MissingWord),
-        None => home,
+        None => home.ok_or(Status::MissingWord)?,
     };
     store(alloc, host, name, session.image().bytes())
 }

@@ -1,5 +1,5 @@
 //! `Line`: a line of a script as a value, made of its command and arguments.
-ghost use Rattle.std.specs.Prelude.{◌≡◌, ◌++◌, map, option_map};
+ghost use Rattle.std.specs.Prelude.{◌≡◌, ◌++◌, Option, map, option_map};
 ghost use Rattle.d64_image.specs.Disk.{Bytes};
 ghost use Rattle.d64_undo.specs.History.{History};
 ghost use Rattle.script_commands.specs.Line.{act_in, row_of, after_no_word, lone_commands, disk_commands, file_commands, host_commands};
@@ -101,7 +101,7 @@ impl<'a> Line<'a> {
     /// Reads a command and its arguments. The command is in small letters, and must have as many
     /// arguments as it takes.
     pub(crate) fn of(words: &'a [&'a str]) -> Result<Line<'a>, Status>
-        ensures { (home : Bytes) (history : History) → act_of_result home history result ≡ act_of_words home history (map (λ word. word.now) words.now) }
+        ensures { (home : Option Bytes) (history : History) → act_of_result home history result ≡ act_of_words home history (map (λ word. word.now) words.now) }
     {
         let Some((command, words)) = words.split_first() else {
             return Err(Status::UnknownCommand);
@@ -115,7 +115,7 @@ impl<'a> Line<'a> {
 
 /// Reads a command that takes no arguments.
 fn alone<'a>(command: &str) -> Option<Line<'a>>
-    ensures { (home : Bytes) (history : History) → option_map (act_of home history) result ≡ option_map (λ row. row.1) (row_of command.now (lone_commands history)) }
+    ensures { (home : Option Bytes) (history : History) → option_map (act_of home history) result ≡ option_map (λ row. row.1) (row_of command.now (lone_commands history)) }
 {
     match command {
         "history" => Some(Line::ListHistory),
@@ -130,7 +130,7 @@ fn alone<'a>(command: &str) -> Option<Line<'a>>
 
 /// A line whose command takes no arguments, if it has none.
 fn with_no_word<'a>(line: Line<'a>, words: &[&str]) -> Result<Line<'a>, Status>
-    ensures { (home : Bytes) (history : History) → act_of_result home history result ≡ after_no_word (map (λ word. word.now) words.now) (act_of home history line.entry) }
+    ensures { (home : Option Bytes) (history : History) → act_of_result home history result ≡ after_no_word (map (λ word. word.now) words.now) (act_of home history line.entry) }
 {
     match words {
         [] => Ok(line),
@@ -140,7 +140,7 @@ fn with_no_word<'a>(line: Line<'a>, words: &[&str]) -> Result<Line<'a>, Status>
 
 /// Reads a command with arguments that does not use the host, or else one of those below.
 fn on_the_disk<'a>(command: &str, words: &'a [&'a str]) -> Result<Line<'a>, Status>
-    ensures { (home : Bytes) (history : History) → act_of_result home history result ≡ act_in (disk_commands history (map (λ word. word.now) words.now) ++ file_commands history (map (λ word. word.now) words.now) ++ host_commands home history (map (λ word. word.now) words.now)) command.now }
+    ensures { (home : Option Bytes) (history : History) → act_of_result home history result ≡ act_in (disk_commands history (map (λ word. word.now) words.now) ++ file_commands history (map (λ word. word.now) words.now) ++ host_commands home history (map (λ word. word.now) words.now)) command.now }
 {
     match command {
         "block" => match two_words(words) {
@@ -181,7 +181,7 @@ fn on_the_disk<'a>(command: &str, words: &'a [&'a str]) -> Result<Line<'a>, Stat
 
 /// Reads a command that takes a file from the host to the disk or back, or else one of those below.
 fn with_a_file<'a>(command: &str, words: &[&'a str]) -> Result<Line<'a>, Status>
-    ensures { (home : Bytes) (history : History) → act_of_result home history result ≡ act_in (file_commands history (map (λ word. word.now) words.now) ++ host_commands home history (map (λ word. word.now) words.now)) command.now }
+    ensures { (home : Option Bytes) (history : History) → act_of_result home history result ≡ act_in (file_commands history (map (λ word. word.now) words.now) ++ host_commands home history (map (λ word. word.now) words.now)) command.now }
 {
     match command {
         "crunch" => match one_or_two(words) {
@@ -202,7 +202,7 @@ fn with_a_file<'a>(command: &str, words: &[&'a str]) -> Result<Line<'a>, Status>
 
 /// Reads a command that fetches or stores a block, the image or the session.
 fn with_the_host<'a>(command: &str, words: &[&'a str]) -> Result<Line<'a>, Status>
-    ensures { (home : Bytes) (history : History) → act_of_result home history result ≡ act_in (host_commands home history (map (λ word. word.now) words.now)) command.now }
+    ensures { (home : Option Bytes) (history : History) → act_of_result home history result ≡ act_in (host_commands home history (map (λ word. word.now) words.now)) command.now }
 {
     match command {
         "bread" => match three_words(words) {

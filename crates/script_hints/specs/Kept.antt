@@ -1,5 +1,6 @@
 -- What the host has of a session, and when changes are not saved.
-use Rattle.std.specs.Prelude.{Bool, true, not, if◌then◌else◌, ◌==◌, length, Option, Some, None, codes}
+use Rattle.std.specs.Prelude.{Bool, true, not, if◌then◌else◌, ◌==◌, length, Option, Some, None, option_map, codes}
+use Rattle.std.specs.Option.{option_eq}
 use Rattle.std.specs.Str.{bytes_eq}
 use Rattle.sha2.specs.Sha256.{sha256}
 use Rattle.d64_image.specs.Disk.{Bytes, Disk}
@@ -13,19 +14,19 @@ use Rattle.script_hints.specs.declared.kept.Kept.{Kept}
 -- the effect of an accepted line on the files that may have the image: it stores the image in one,
 -- or something else, or neither
 pub data Effect : Type 0 where
-  Holds : Bytes → Effect
+  Holds : Option Bytes → Effect
   Replaces : Bytes → Effect
   Nothing : Effect
 
--- an image that the file with a name has
-abbrev pub kept_in : Disk → Bytes → Kept
-kept_in image name = record { image = sha256 (bytes_of image); file = sha256 name }
+-- an image that the file with a name has, or that has no file since it is blank
+abbrev pub kept_in : Disk → Option Bytes → Kept
+kept_in image name = record { image = sha256 (bytes_of image); file = option_map sha256 name }
 
 -- what the host has after something else was stored in the file with a name: nothing if that one
 -- had the image
 abbrev pub unless_replaced : Option Kept → Bytes → Option Kept
 unless_replaced None name = None
-unless_replaced (Some kept) name = if bytes_eq kept.file (sha256 name) then None else Some kept
+unless_replaced (Some kept) name = if option_eq bytes_eq kept.file (Some (sha256 name)) then None else Some kept
 
 -- what the host has after an accepted line that left an image
 abbrev pub kept_after : Option Kept → Effect → Disk → Option Kept
@@ -40,15 +41,15 @@ is_unsaved (Some kept) image = not (bytes_eq kept.image (sha256 (bytes_of image)
 
 -- the effect of an accepted line of a command, by the names under which `save` and `read` store by
 -- default
-abbrev pub effect_by : Bytes → Bytes → Said → LineCommand → Effect
-effect_by home found said Save = Holds (if length said.first == 0 then home else said.first)
-effect_by home found said Keep = Holds said.first
+abbrev pub effect_by : Option Bytes → Bytes → Said → LineCommand → Effect
+effect_by home found said Save = Holds (if length said.first == 0 then home else Some said.first)
+effect_by home found said Keep = Holds (Some said.first)
 effect_by home found said Read = Replaces (if length said.second == 0 then found else said.second)
 effect_by home found said BlockRead = Replaces said.first
 effect_by home found said command = Nothing
 
 -- the effect of an accepted line with these arguments
-abbrev pub effect_of : Bytes → Bytes → Said → Effect
+abbrev pub effect_of : Option Bytes → Bytes → Said → Effect
 effect_of home found said = effect_by home found said (command_of said.word)
 
 -- the line that says that changes are not saved

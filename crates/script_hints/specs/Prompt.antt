@@ -1,12 +1,14 @@
 -- The prompt: which image a session is of, and whether it has changes that are not saved.
-use Rattle.std.specs.Prelude.{◌++◌, Bool, ◌==◌, length, if◌then◌else◌, codes}
+use Rattle.std.specs.Prelude.{◌++◌, Bool, Option, Some, None, if◌then◌else◌, codes}
 use Rattle.d64_image.specs.Disk.{Bytes}
 use Rattle.script_commands.specs.Arguments.{after_slash}
 use Rattle.host_names.specs.Shown.{shown_name}
 
--- the name in the prompt: that of the image file, without its folders, as names are shown
-abbrev pub name_in_prompt : Bytes → Bytes
-name_in_prompt home = if length home == 0 then codes "d64sh" else shown_name (after_slash home)
+-- the name in the prompt: that of the image file, without its folders, as names are shown, if there
+-- is one
+abbrev pub name_in_prompt : Option Bytes → Bytes
+name_in_prompt None = codes "d64sh"
+name_in_prompt (Some home) = shown_name (after_slash home)
 
 -- the mark after the name
 abbrev pub prompt_mark : Bool → Bytes

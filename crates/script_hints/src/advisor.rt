@@ -1,7 +1,7 @@
 //! The observer that explains refused lines to a person, and what happens to changes that are not
 //! saved.
 //! saved.
-ghost use Rattle.std.specs.Prelude.{◌≡◌, ◌⊎◌, ℕ, List, [], Some, None, IfSome, if◌then◌else◌, ◌++◌, ◌&&◌, ◌||◌, codes, not, false, true};
+ghost use Rattle.std.specs.Prelude.{◌≡◌, ◌⊎◌, ℕ, List, [], Some, None, IfSome, option_copied, if◌then◌else◌, ◌++◌, ◌&&◌, ◌||◌, codes, not, false, true};
 ghost use Rattle.host_storage.specs.Files.{HostState};
 ghost use Rattle.script_text.specs.HeldLine.{HoldsText};
 ghost use Rattle.script_text.specs.Output.{Writes};
@@ -136,13 +136,13 @@ impl<'w, W: Write, H: Host> Advisor<'w, W, H> {
         ensures output { self.new.output ≡ self.old.output }
         ensures typed { self.new.is_typed ≡ (self.old.is_terminal && not opening.now.is_given) }
         ensures numbered { self.new.is_numbered ≡ (opening.now.is_given || stops_at_refusal opening.now.refusals) }
-        ensures kept { self.new.is_typed ≡ true → self.new.kept ≡ Some (kept_in (present_image session.now) opening.now.held_in.now) }
-        ensures name { self.new.is_typed ≡ true → IfSome self.new.name (λ name. name.items ≡ name_in_prompt opening.now.home.now) }
+        ensures kept { self.new.is_typed ≡ true → self.new.kept ≡ Some (kept_in (present_image session.now) (option_copied opening.now.held_in)) }
+        ensures name { self.new.is_typed ≡ true → IfSome self.new.name (λ name. name.items ≡ name_in_prompt (option_copied opening.now.home)) }
     {
         self.is_typed = self.is_terminal && !opening.is_given;
         self.is_numbered = opening.is_given || matches!(opening.refusals, Refusals::Stop);
         if self.is_typed {
-            self.kept = Some(Kept::of(session.image(), opening.held_in.as_bytes()));
+            self.kept = Some(Kept::of(session.image(), opening.held_in.map(str::as_bytes)));
             self.name = prompt_name(self.alloc, opening.home).ok();
             self.files = file_count(session.image());
             self.done = session.done();
@@ -163,12 +163,12 @@ impl<'w, W: Write, H: Host> Advisor<'w, W, H> {
     }
 
     /// Follows a line that has run, and explains it if it was refused.
-    pub fn advise(&mut self, home: &str, line: &HeldLine, status: &Status, image: &Image)
+    pub fn advise(&mut self, home: Option<&str>, line: &HeldLine, status: &Status, image: &Image)
         ensures lent { self.new.output.writer.ghost_name ≡ self.old.output.writer.ghost_name }
         ensures typed { self.new.is_typed ≡ self.old.is_typed }
         ensures numbered { self.new.is_numbered ≡ self.old.is_numbered }
         ensures lines { self.new.lines ≡ self.old.lines }
-        ensures kept { (raw : List ℕ) → HoldsText line.now raw → self.old.is_typed ≡ true → is_accepted status.now ≡ true → (found : List ℕ) × (self.new.kept ≡ kept_after self.old.kept (effect_of home.now found (said_by raw)) image.now) }
+        ensures kept { (raw : List ℕ) → HoldsText line.now raw → self.old.is_typed ≡ true → is_accepted status.now ≡ true → (found : List ℕ) × (self.new.kept ≡ kept_after self.old.kept (effect_of (option_copied home.entry) found (said_by raw)) image.now) }
         ensures held { is_accepted status.now ≡ false → self.new.kept ≡ self.old.kept }
         ensures advised { (raw : List ℕ) → HoldsText line.now raw → is_accepted status.now ≡ false → (start words : List ℕ)
             × MayStart self.old.is_numbered self.old.lines (shown_raw_text raw self.old.first_bytes.items) start
@@ -219,10 +219,10 @@ impl<'w, W: Write, H: Host> Advisor<'w, W, H> {
 
     /// Ends the session: if its image is not the one that a file has, it says so, and keeps the
     /// session if it was left by `quit` or by the end of what is typed.
-    pub fn end_with(&mut self, home: &str, session: &Session)
+    pub fn end_with(&mut self, home: Option<&str>, session: &Session)
         ensures lent { self.new.output.writer.ghost_name ≡ self.old.output.writer.ghost_name }
         ensures advised { is_unsaved self.old.kept (present_image session.now) ≡ true → (line : List ℕ)
-            × ((line ≡ unsaved_line) ⊎ ((self.old.is_left ≡ true) × IsKeptUnder (H.state self.old.host) home.now session.now line (H.state self.new.host)))
+            × ((line ≡ unsaved_line) ⊎ ((self.old.is_left ≡ true) × IsKeptUnder (H.state self.old.host) (option_copied home.entry) session.now line (H.state self.new.host)))
             × Writes (account_at W.contents self.old.output) (account_at W.contents self.new.output) line }
         ensures silent { is_unsaved self.old.kept (present_image session.now) ≡ false → self.new ≡ self.old }
     {
@@ -355,7 +355,7 @@ impl<'w, W: Write, H: Host> Observer for Advisor<'w, W, H> {
         self.is_typed || self.is_numbered && !status.is_accepted()
     }
 
-    fn observe(&mut self, home: &str, line: &HeldLine, status: &Status, session: &Session) {
+    fn observe(&mut self, home: Option<&str>, line: &HeldLine, status: &Status, session: &Session) {
         self.lines = self.lines.saturating_add(1);
         self.is_prompting = false;
         let asks = self.is_typed && asks_for_help(line, status);
@@ -374,7 +374,7 @@ impl<'w, W: Write, H: Host> Observer for Advisor<'w, W, H> {
         self.first_bytes.clear();
     }
 
-    fn end(&mut self, home: &str, session: &Session) {
+    fn end(&mut self, home: Option<&str>, session: &Session) {
         if self.is_typed {
             self.end_with(home, session);
         }

@@ -1,5 +1,6 @@
 //! What the host has of a session.
-ghost use Rattle.std.specs.Prelude.{◌≡◌};
+ghost use Rattle.std.specs.Prelude.{◌≡◌, option_copied, option_map};
+ghost use Rattle.sha2.specs.Sha256.{sha256};
 ghost use Rattle.script_hints.specs.Kept.{effect_of, is_unsaved, kept_after, kept_in, unless_replaced};
 
 use crate::command::LineCommand;
@@ -7,22 +8,33 @@ use crate::said::Said;
 use d64_image::Image;
 use sha2::{Digest, Sha256};
 
-/// The image that the host has, and the name of its file, each by its digest.
+/// The image that the host has, and the name of its file, each by its digest. A blank image has no
+/// file.
 #[derive(Clone, Copy)]
 pub(crate) struct Kept {
     image: [u8; 32],
-    file: [u8; 32],
+    file: Option<[u8; 32]>,
 }
 
 impl Kept {
     /// An image that the file with this name has.
-    pub(crate) fn of(image: &Image, name: &[u8]) -> Kept
-        ensures { result ≡ kept_in image.now name.now }
+    pub(crate) fn of(image: &Image, name: Option<&[u8]>) -> Kept
+        ensures { result ≡ kept_in image.now (option_copied name.entry) }
     {
         Kept {
             image: Sha256::digest(image.bytes()),
-            file: Sha256::digest(name),
+            file: digest_of(name),
         }
+    }
+}
+
+/// The digest of a name, if there is one.
+fn digest_of(name: Option<&[u8]>) -> Option<[u8; 32]>
+    ensures { result ≡ option_map sha256 (option_copied name.entry) }
+{
+    match name {
+        Some(name) => Some(Sha256::digest(name)),
+        None => None,
     }
 }
 
@@ -30,22 +42,22 @@ impl Kept {
 /// stores under `home` by default, and `read` under `found`.
 pub(crate) fn kept_after(
     kept: Option<Kept>,
-    home: &str,
+    home: Option<&str>,
     found: &[u8],
     said: &Said<'_>,
     image: &Image,
 ) -> Option<Kept>
-    ensures { result ≡ kept_after kept (effect_of home.now found.now said.now) image.now }
+    ensures { result ≡ kept_after kept (effect_of (option_copied home.entry) found.now said.now) image.now }
 {
     match LineCommand::of(said.word) {
         LineCommand::Save => {
             if said.first.is_empty() {
-                Some(Kept::of(image, home.as_bytes()))
+                Some(Kept::of(image, home.map(str::as_bytes)))
             } else {
-                Some(Kept::of(image, said.first))
+                Some(Kept::of(image, Some(said.first)))
             }
         }
-        LineCommand::Keep => Some(Kept::of(image, said.first)),
+        LineCommand::Keep => Some(Kept::of(image, Some(said.first))),
         LineCommand::Read => {
             if said.second.is_empty() {
                 unless_replaced(kept, found)
@@ -64,7 +76,7 @@ fn unless_replaced(kept: Option<Kept>, name: &[u8]) -> Option<Kept>
 {
     match kept {
         Some(kept) => {
-            if kept.file == Sha256::digest(name) {
+            if kept.file == Some(Sha256::digest(name)) {
                 None
             } else {
                 Some(kept)

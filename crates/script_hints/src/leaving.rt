@@ -1,5 +1,5 @@
 //! What happens to changes that are not saved when a session is left.
-ghost use Rattle.std.specs.Prelude.{◌≡◌, IfOk, IfSome};
+ghost use Rattle.std.specs.Prelude.{◌≡◌, IfOk, IfSome, option_copied};
 ghost use Rattle.script_hints.specs.Leaving.{IsKeptUnder, kept_line, session_name};
 
 use d64_undo::Session;
@@ -12,15 +12,15 @@ use std::alloc::{AllocError, Global};
 pub(crate) fn keep_session<H: Host>(
     alloc: Global,
     host: &mut H,
-    home: &str,
+    home: Option<&str>,
     session: &Session,
 ) -> Option<Vec<u8>>
-    ensures { IfSome result (λ line. IsKeptUnder (H.state host.old) home.now session.now line.items (H.state host.new)) }
+    ensures { IfSome result (λ line. IsKeptUnder (H.state host.old) (option_copied home.entry) session.now line.items (H.state host.new)) }
 {
-    if home.is_empty() {
+    let Some(image) = home else {
         return None;
-    }
-    let Ok(name) = session_name(alloc, home) else {
+    };
+    let Ok(name) = session_name(alloc, image) else {
         return None;
     };
     if host.is_there(name.as_str()) {
@@ -39,11 +39,11 @@ pub(crate) fn keep_session<H: Host>(
 }
 
 /// The name of an image with `.session` added.
-fn session_name(alloc: Global, home: &str) -> Result<String, AllocError>
-    ensures { IfOk result (λ name. name.bytes.items ≡ session_name home.now) }
+fn session_name(alloc: Global, image: &str) -> Result<String, AllocError>
+    ensures { IfOk result (λ name. name.bytes.items ≡ session_name image.now) }
 {
     let mut name = String::new(alloc);
-    name.push_str(home)?;
+    name.push_str(image)?;
     name.push_str(".session")?;
     Ok(name)
 }

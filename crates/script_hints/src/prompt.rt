@@ -1,5 +1,5 @@
 //! The prompt: which image a session is of, and whether it has changes that are not saved.
-ghost use Rattle.std.specs.Prelude.{◌≡◌, ◌++◌, IfOk, OnOk, OnErr};
+ghost use Rattle.std.specs.Prelude.{◌≡◌, ◌++◌, IfOk, OnOk, OnErr, option_copied};
 ghost use Rattle.script_text.specs.Output.{Writes};
 ghost use Rattle.program_console.specs.Outside.{account_at};
 ghost use Rattle.script_commands.specs.Arguments.{after_slash};
@@ -11,14 +11,13 @@ use std::alloc::{AllocError, Global};
 use std::io::Write;
 
 /// The name in the prompt of a session whose image is in this host file, or in none.
-pub(crate) fn prompt_name(alloc: Global, home: &str) -> Result<Vec<u8>, AllocError>
-    ensures { IfOk result (λ name. name.items ≡ name_in_prompt home.now) }
+pub(crate) fn prompt_name(alloc: Global, home: Option<&str>) -> Result<Vec<u8>, AllocError>
+    ensures { IfOk result (λ name. name.items ≡ name_in_prompt (option_copied home.entry)) }
 {
     let mut name = Vec::new(alloc);
-    if home.is_empty() {
-        name.extend_from_slice(b"d64sh")?;
-    } else {
-        push_shown(&mut name, last_part(home.as_bytes()))?;
+    match home {
+        Some(home) => push_shown(&mut name, last_part(home.as_bytes()))?,
+        None => name.extend_from_slice(b"d64sh")?,
     }
     Ok(name)
 }

@@ -154,7 +154,7 @@ pub HasRun-none : {L W H : Type 0} (contents : W → Option (List ℕ)) (state :
     → HoldsLine run.line [] → run.output.now.has_failed ≡ false → HasRun contents state run run [] []
 HasRun-none contents state run none held unfailed = record {
   keeps = record { options = refl; observer = refl; output = refl; writer = refl; host = refl; session = refl };
-  ran = RanLines-none (options_of run.options) (state_of contents state run) run.tally none;
+  ran = RanLines-none (options_of run.options.now) (state_of contents state run) run.tally none;
   held = held;
   open_run = ap (λ t. t.closed) none;
   unfailed = unfailed;
@@ -164,36 +164,36 @@ HasRun-none contents state run none held unfailed = record {
 -- a run has ended over a script that its reader had
 pub Ran-ended : {L W H : Type 0} (contents : W → Option (List ℕ)) (state : H → HostState) (first now : LineRunner L W H) (reader left : Option (List ℕ)) (ended : Result Outcome ShellFault)
     → Ends (λ parts. EndsRun contents state first now parts ended) 10 reader
-    → Ran (options_of first.options) reader left (state_of contents state first) (state_of contents state now) ended
+    → Ran (options_of first.options.now) reader left (state_of contents state first) (state_of contents state now) ended
 Ran-ended contents state first now reader left (Ok outcome) ends =
     let (after, ran, accepted, refused, unfailed) = ends.here.ran in
     record {
       script = ends.input;
       all = ends.all;
       after = after;
-      ran = subst (λ (l : List (List ℕ)). RanLines (options_of first.options) (state_of contents state first) (state_of contents state now) l after) (sym (lines_of-parts ends.input)) ran;
+      ran = subst (λ (l : List (List ℕ)). RanLines (options_of first.options.now) (state_of contents state first) (state_of contents state now) l after) (sym (lines_of-parts ends.input)) ran;
       accepted = accepted;
       refused = refused;
     }
 Ran-ended contents state first now reader left (Err fault) ends =
-    subst (λ (f : ShellFault). Ran (options_of first.options) reader left (state_of contents state first) (state_of contents state now) (Err f)) (sym ends.here.ran.0)
+    subst (λ (f : ShellFault). Ran (options_of first.options.now) reader left (state_of contents state first) (state_of contents state now) (Err f)) (sym ends.here.ran.0)
     (record {
       script = ends.input;
       all = ends.all;
-      stopped = subst (StoppedAt (options_of first.options) (state_of contents state first) (state_of contents state now)) (sym (lines_of-parts ends.input)) ends.here.ran.1;
+      stopped = subst (StoppedAt (options_of first.options.now) (state_of contents state first) (state_of contents state now)) (sym (lines_of-parts ends.input)) ends.here.ran.1;
     })
 
 -- reading failed, or passed a limit
 pub RanRead-by : {L W H : Type 0} (contents : W → Option (List ℕ)) (state : H → HostState) (first now : LineRunner L W H) (reader left : Option (List ℕ)) (consumed : List ℕ)
     → Consumes reader left consumed → HasCome (HasRun contents state first now) 10 (take input_limit consumed)
-    → RanRead (options_of first.options) reader left (state_of contents state first) (state_of contents state now)
+    → RanRead (options_of first.options.now) reader left (state_of contents state first) (state_of contents state now)
 RanRead-by contents state first now reader left consumed lost come =
     let after = progress_of now.tally (world_of (state now.host.now) now.session.now) in
     record {
       consumed = consumed;
       lost = lost;
       after = after;
-      ran = subst (λ (l : List (List ℕ)). RanLines (options_of first.options) (state_of contents state first) (state_of contents state now) l after)
+      ran = subst (λ (l : List (List ℕ)). RanLines (options_of first.options.now) (state_of contents state first) (state_of contents state now) l after)
           (sym (ended_lines-come (HasRun contents state first now) (take input_limit consumed) come)) come.here.ran;
       open_run = come.here.open_run;
     }

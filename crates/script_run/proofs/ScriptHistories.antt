@@ -171,9 +171,9 @@ read-leads IsOne history pattern (Some host) =
     (λ name. after_any IsOne history (refuse_by (read_refusal (present_image history) pattern)) _ (λ _ stored known. inl refl))
 
 -- an image that is saved leaves it too
-save-leads : (IsOne : Asked → Type 0) (home : List ℕ) (history : History) (host : Option (List ℕ)) → Leads IsOne history (save_act home history host)
-save-leads IsOne [] history None = tt
-save-leads IsOne (byte ∷ home) history None = λ stored known. inl refl
+save-leads : (IsOne : Asked → Type 0) (home : Option (List ℕ)) (history : History) (host : Option (List ℕ)) → Leads IsOne history (save_act home history host)
+save-leads IsOne None history None = tt
+save-leads IsOne (Some home) history None = λ stored known. inl refl
 save-leads IsOne home history (Some host) = after_any IsOne history (value_or_refusal (host_in host)) _ (λ name stored known. inl refl)
 
 -- each row of a table that has this word leads
@@ -187,7 +187,7 @@ abbrev ◌⨾◌ : {A B : Type 0} → A → B → A × B
 row ⨾ rows = (row, rows)
 
 -- each command asks for one request at most: one that keeps disks sound, except for a block write
-commands-lead : (IsOne : Asked → Type 0) (home : List ℕ) (history : History) (first : List ℕ) (words : List (List ℕ))
+commands-lead : (IsOne : Asked → Type 0) (home : Option (List ℕ)) (history : History) (first : List ℕ) (words : List (List ℕ))
     → ((request : Asked) → KeepsDisksSound request → IsOne request) → (first ≡ codes "bwrite" → (request : Asked) → IsOne request)
     → EachLeads IsOne history first (commands home history words)
 commands-lead IsOne home history first words keeps writes =
@@ -256,7 +256,7 @@ found-leads IsOne history first (row ∷ rows) each =
     (λ has. each.0 ((bytes_eq-Decides first row.0).0 has)) (found-leads IsOne history first rows each.1)
 
 -- and so does each word of a line
-words-lead : (IsOne : Asked → Type 0) (home : List ℕ) (history : History) (words : List (List ℕ))
+words-lead : (IsOne : Asked → Type 0) (home : Option (List ℕ)) (history : History) (words : List (List ℕ))
     → ((request : Asked) → KeepsDisksSound request → IsOne request)
     → ((more : List (List ℕ)) → words ≡ codes "bwrite" ∷ more → (request : Asked) → IsOne request)
     → Leads IsOne history (act_of_words home history words)

@@ -39,7 +39,7 @@ state_of contents state run = script_state (contents run.output.now.writer.now) 
 
 -- a run that goes on has its options, and what it was lent
 pub record KeepsRun {L W H : Type 0} (first now : LineRunner L W H) : Type 0 where
-  pub options : now.options ≡ first.options
+  pub options : now.options.now ≡ first.options.now
   pub observer : now.observer.ghost_name ≡ first.observer.ghost_name
   pub output : now.output.ghost_name ≡ first.output.ghost_name
   pub writer : now.output.now.writer.ghost_name ≡ first.output.now.writer.ghost_name
@@ -50,7 +50,7 @@ pub record KeepsRun {L W H : Type 0} (first now : LineRunner L W H) : Type 0 whe
 -- holds the bytes of the next one; if something is not delivered that was, a line has printed it
 pub record HasRun {L W H : Type 0} (contents : W → Option (List ℕ)) (state : H → HostState) (first now : LineRunner L W H) (parts : List (List ℕ)) (begun : List ℕ) : Type 0 where
   pub keeps : KeepsRun first now
-  pub ran : RanLines (options_of first.options) (state_of contents state first) (state_of contents state now) (map ended_line parts)
+  pub ran : RanLines (options_of first.options.now) (state_of contents state first) (state_of contents state now) (map ended_line parts)
       (progress_of now.tally (world_of (state now.host.now) now.session.now))
   pub held : HoldsLine now.line begun
   pub open_run : now.tally.closed ≡ false
@@ -61,9 +61,9 @@ pub record HasRun {L W H : Type 0} (contents : W → Option (List ℕ)) (state :
 pub record EndsRun {L W H : Type 0} (contents : W → Option (List ℕ)) (state : H → HostState) (first now : LineRunner L W H) (parts : List (List ℕ)) (ended : Result Outcome ShellFault) : Type 0 where
   pub keeps : KeepsRun first now
   pub ran : MatchResult ended
-      (λ outcome. (after : RunProgress) × RanLines (options_of first.options) (state_of contents state first) (state_of contents state now) (lines_in parts) after
+      (λ outcome. (after : RunProgress) × RanLines (options_of first.options.now) (state_of contents state first) (state_of contents state now) (lines_in parts) after
       × (outcome.accepted ≡ after.accepted) × (outcome.refused ≡ after.refused) × (now.output.now.has_failed ≡ false))
-      (λ fault. (fault ≡ Write) × StoppedAt (options_of first.options) (state_of contents state first) (state_of contents state now) (lines_in parts)
+      (λ fault. (fault ≡ Write) × StoppedAt (options_of first.options.now) (state_of contents state first) (state_of contents state now) (lines_in parts)
       × (now.output.now.has_failed ≡ true))
 
 -- a line of an open run has run, and what it prints was written

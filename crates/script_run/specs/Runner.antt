@@ -1,5 +1,5 @@
 -- The effect of running a script, however it ends.
-use Rattle.std.specs.Prelude.{◌≡◌, ℕ, List, ◌∷◌, ◌++◌, take, Bool, true, false, Option, IfSome, Result, Ok, Err}
+use Rattle.std.specs.Prelude.{◌≡◌, ℕ, List, ◌∷◌, ◌++◌, take, Bool, true, false, Option, IfSome, option_copied, Result, Ok, Err}
 use Rattle.std.specs.Io.KnownBytes.{Appends, Consumes}
 use Rattle.script_text.specs.Input.{Reading, IsUnreadable, input_limit}
 use Rattle.script_text.specs.RawLines.{lines_of, ended_lines}
@@ -13,7 +13,7 @@ use Rattle.script_run.specs.declared.run_options.RunOptions.{RunOptions as CodeO
 
 -- how the code's script is run
 abbrev pub options_of : CodeOptions → RunOptions
-options_of options = record { home = options.home.now; refusals = options.refusals }
+options_of options = record { home = option_copied options.home; refusals = options.refusals }
 
 -- the writer's bytes, if they are known, and the world on which a run works
 pub record ScriptState : Type 0 where

@@ -1,5 +1,5 @@
 -- What a script prints and changes, line by line.
-use Rattle.std.specs.Prelude.{◌≡◌, ℕ, ◌+◌, List, [], ◌∷◌, ◌++◌, Bool, MatchBool, MatchOption, if◌then◌else◌, ◌||◌, false, not}
+use Rattle.std.specs.Prelude.{◌≡◌, ℕ, ◌+◌, List, [], ◌∷◌, ◌++◌, Bool, MatchBool, MatchOption, Option, Some, None, if◌then◌else◌, ◌||◌, false, not}
 use Rattle.script_commands.specs.Act.{Does, LineAnswer, World, printed_bytes}
 use Rattle.script_commands.specs.Line.{act_of_line}
 use Rattle.script_text.specs.Status.{is_accepted}
@@ -7,14 +7,19 @@ use Rattle.script_text.specs.declared.status.Status.{Status}
 use Rattle.script_run.specs.declared.run_options.Refusals.{Refusals}
 use Rattle.script_run.specs.declared.run_options.Refusals.TheVariants.{GoOn, Stop}
 
--- how a script is run: the name of the host file in which `save` stores by default, and the effect
--- of a refused line
+-- the host file in which `save` stores by default, by its name: an empty name is that of none
+abbrev pub home_of : List ℕ → Option (List ℕ)
+home_of [] = None
+home_of (byte ∷ bytes) = Some (byte ∷ bytes)
+
+-- how a script is run: the name of the host file in which `save` stores by default, if there is
+-- one, and the effect of a refused line
 pub record RunOptions : Type 0 where
-  pub home : List ℕ
+  pub home : Option (List ℕ)
   pub refusals : Refusals
 
 -- a script that goes on after refused lines
-abbrev pub going_on : List ℕ → RunOptions
+abbrev pub going_on : Option (List ℕ) → RunOptions
 going_on home = record { home = home; refusals = GoOn }
 
 -- whether a line of this status ends its script: it does if the line is refused and refused lines

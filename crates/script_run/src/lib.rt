@@ -8,5 +8,5 @@ mod run_options;
 mod runner;
 
 pub use observer::{Nobody, Observer, Opening};
-pub use run_options::{Refusals, RunOptions};
+pub use run_options::{Refusals, RunOptions, home_of};
 pub use runner::{Outcome, ScriptRunner, ShellFault, run};

@@ -10,10 +10,10 @@ use script_text::status::Status;
 /// What a session begins with, as an observer sees it.
 #[derive(Clone, Copy)]
 pub struct Opening<'n> {
-    /// The name of the host file in which `save` stores by default, or empty.
-    pub home: &'n str,
-    /// The name of the host file that has the first image, as an image or in a session, or empty.
-    pub held_in: &'n str,
+    /// The name of the host file in which `save` stores by default, if there is one.
+    pub home: Option<&'n str>,
+    /// The name of the host file that has the first image, as an image or in a session, if one has.
+    pub held_in: Option<&'n str>,
     /// Whether the script is an argument of the program.
     pub is_given: bool,
     /// The effect of a refused line.
@@ -47,11 +47,11 @@ pub trait Observer {
     fn needs_delivery(&self, status: &Status) -> bool;
 
     /// A line that was not skipped got this status, and left this session. `home` is the name of
-    /// the host file in which `save` stores by default, or empty.
-    fn observe(&mut self, home: &str, line: &HeldLine, status: &Status, session: &Session);
+    /// the host file in which `save` stores by default, if there is one.
+    fn observe(&mut self, home: Option<&str>, line: &HeldLine, status: &Status, session: &Session);
 
     /// The session has ended, in whatever way.
-    fn end(&mut self, home: &str, session: &Session);
+    fn end(&mut self, home: Option<&str>, session: &Session);
 }
 
 /// The observer that does nothing.
@@ -75,7 +75,13 @@ impl Observer for Nobody {
         false
     }
 
-    fn observe(&mut self, _home: &str, _line: &HeldLine, _status: &Status, _session: &Session) {}
+    fn observe(
+        &mut self,
+        _home: Option<&str>,
+        _line: &HeldLine,
+        _status: &Status,
+        _session: &Session,
+    ) {}
 
-    fn end(&mut self, _home: &str, _session: &Session) {}
+    fn end(&mut self, _home: Option<&str>, _session: &Session) {}
 }

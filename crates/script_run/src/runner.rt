@@ -8,11 +8,11 @@ ghost use Rattle.d64_undo.specs.History.{present_image};
 ghost use Rattle.script_commands.specs.Act.{printed_bytes, world_of};
 ghost use Rattle.script_commands.specs.Response.{shown_answer};
 ghost use Rattle.script_run.specs.Runner.{EndsStreams, Ran, options_of, script_state};
-ghost use Rattle.script_run.specs.Transcript.{going_on};
+ghost use Rattle.script_run.specs.Transcript.{going_on, home_of};
 ghost use Rattle.script_run.specs.LineByLine.{EndsRun, HasRun, KeepsRun, RunsLine, StopsInLine, line_count_of, state_of};
 
 use crate::observer::{Nobody, Observer};
-use crate::run_options::{Refusals, RunOptions};
+use crate::run_options::{Refusals, RunOptions, home_of};
 use d64_undo::Session;
 use host_storage::Host;
 use script_commands::{Response, answer_line};
@@ -96,7 +96,7 @@ impl Tally {
 #[derive(Drop)]
 struct LineRunner<'n, 'l, 'o, 'w, 'h, 's, L, W: Write, H> {
     alloc: Global,
-    options: RunOptions<'n>,
+    options: &'n RunOptions<'n>,
     observer: &'l mut L,
     output: &'o mut OutputStream<'w, W>,
     host: &'h mut H,
@@ -119,7 +119,7 @@ pub fn run<R: Read, W: Write, H: Host>(
     home: &str,
     session: &mut Session,
 ) -> Result<Outcome, ShellFault>
-    ensures { Ran (going_on home.now) (R.remaining reader.old) (R.remaining reader.new)
+    ensures { Ran (going_on (home_of home.now)) (R.remaining reader.old) (R.remaining reader.new)
         (script_state (W.contents writer.old) (world_of (H.state host.old) session.old))
         (script_state (W.contents writer.new) (world_of (H.state host.new) session.new))
         result }
@@ -130,7 +130,7 @@ pub fn run<R: Read, W: Write, H: Host>(
     let runner = ScriptRunner {
         alloc,
         options: RunOptions {
-            home,
+            home: home_of(home),
             refusals: Refusals::GoOn,
         },
         observer: &mut nobody,
@@ -180,7 +180,7 @@ impl<'n, 'l, L: Observer> ScriptRunner<'n, 'l, L> {
         } = self;
         let mut runner = LineRunner {
             alloc,
-            options,
+            options: &options,
             observer,
             output,
             host,
@@ -219,7 +219,7 @@ impl<'n, 'l, L: Observer> ScriptRunner<'n, 'l, L> {
         } = self;
         let mut runner = LineRunner {
             alloc,
-            options,
+            options: &options,
             observer,
             output,
             host,
@@ -249,7 +249,7 @@ fn deliver<W: Write>(output: &mut OutputStream<'_, W>) -> Result<(), WriteFault>
 /// if the observer needs it.
 fn write_answer<L: Observer, W: Write>(
     observer: &mut L,
-    home: &str,
+    home: Option<&str>,
     line: &HeldLine,
     response: &Response,
     output: &mut OutputStream<'_, W>,
@@ -287,7 +287,7 @@ impl<'n, 'l, 'o, 'w, 'h, 's, L: Observer, W: Write, H: Host> LineRunner<
         requires few { line_count_of self.old ≡ 0 }
         ensures input { input.new.reader.ghost_name ≡ input.old.reader.ghost_name }
         ensures kept { KeepsRun self.old self.new }
-        ensures ran { Ran (options_of self.old.options) (R.remaining input.old.reader.now) (R.remaining input.new.reader.now)
+        ensures ran { Ran (options_of self.old.options.now) (R.remaining input.old.reader.now) (R.remaining input.new.reader.now)
             (state_of W.contents H.state self.old) (state_of W.contents H.state self.new) result }
         ensures streams { EndsStreams result (reading_of input.new.reads input.new.came input.new.has_failed) self.new.output.now.has_failed }
     {
@@ -302,7 +302,7 @@ impl<'n, 'l, 'o, 'w, 'h, 's, L: Observer, W: Write, H: Host> LineRunner<
         requires begun { HasRun W.contents H.state self.old self.old [] [] }
         requires few { line_count_of self.old ≡ 0 }
         ensures kept { KeepsRun self.old self.new }
-        ensures ran { Ran (options_of self.old.options) (Some text.now) (Some [])
+        ensures ran { Ran (options_of self.old.options.now) (Some text.now) (Some [])
             (state_of W.contents H.state self.old) (state_of W.contents H.state self.new) result }
         ensures written { OnOk result (self.new.output.now.has_failed ≡ false) }
         ensures failed { result ≡ Err ShellFault.Write → self.new.output.now.has_failed ≡ true }
@@ -322,8 +322,8 @@ impl<'n, 'l, 'o, 'w, 'h, 's, L: Observer, W: Write, H: Host> LineRunner<
         ensures count { (line_count_of self.old ≤ line_count_of self.new) × (line_count_of self.new ≤ line_count_of self.old + 1) }
         ensures observed { self.new.output.now.is_delivered ≡ false → self.old.output.now.is_delivered ≡ true → 0 < line_count_of self.new }
         ensures ran { (raw : List ℕ) → HoldsText self.old.line raw → self.old.tally.closed ≡ false → MatchResult result
-            (λ _. RunsLine (options_of self.old.options) raw (state_of W.contents H.state self.old) (state_of W.contents H.state self.new) self.old.tally self.new.tally)
-            (λ _. StopsInLine (options_of self.old.options) raw (state_of W.contents H.state self.old) (state_of W.contents H.state self.new) self.old.tally) }
+            (λ _. RunsLine (options_of self.old.options.now) raw (state_of W.contents H.state self.old) (state_of W.contents H.state self.new) self.old.tally self.new.tally)
+            (λ _. StopsInLine (options_of self.old.options.now) raw (state_of W.contents H.state self.old) (state_of W.contents H.state self.new) self.old.tally) }
     {
         let home = self.options.home;
         let Some(response) = answer_line(self.alloc, self.host, home, self.session, &self.line)

@@ -1,23 +1,21 @@
 -- The script has run from its beginning, and a flush of the output changes none of its bytes.
 use Rattle.std.proofs.Common.{◌≡◌, ◌∙◌, Ok, Err, inl, inr, refl, ap, option_copied, rules}
-use Rattle.cmd_shell.specs.Beginnings.{home_of, source_by}
+use Rattle.cmd_shell.specs.Beginnings.{source_by}
 use Rattle.script_text.specs.Input.{reading_of}
 use Rattle.program_console.specs.Outside.{Outside, account_at, outside_at, outside_of}
 use Rattle.cmd_shell.specs.ShellRuns.{StoppedBy}
 use Rattle.program_exit.specs.Faults.{fault_of_run}
 use Rattle.cmd_shell.specs.Scripts.{beginning_in, options_in, source_in}
 use Rattle.program_exit.proofs.Results.{IfErr-of_error}
-use Rattle.cmd_shell.proofs.ShellRuns.{home_is, RanShell-flushed, reported_of-write}
+use Rattle.cmd_shell.proofs.ShellRuns.{RanShell-flushed, reported_of-write}
 use Rattle.cmd_shell.proofs.shell_job.ShellJob.run.Goals as goal
 
 -- to its end
 pub returns-in-Ok-clause-ran : goal.returns-in-Ok-clause-ran
 returns-in-Ok-clause-ran g c =
     let job = c.args.self in
-    let home : c.unwrap_or.result.now ≡ home_of (option_copied job.image) =
-    ap (λ text. text.now) c.unwrap_or.ensures ∙ home_is job.image _ (search rules) in
-    let options : record { home = c.unwrap_or.result.now; refusals = job.refusals } ≡ options_in job =
-    ap (λ h. record { home = h; refusals = job.refusals }) home in
+    let options : record { home = option_copied c.home.result; refusals = job.refusals } ≡ options_in job =
+    ap (λ h. record { home = h; refusals = job.refusals }) c.home.ensures in
     let source : source_by (option_copied c.as_deref.result) ≡ source_in job = search rules in
     let old : Outside = outside_at g.R.Read.remaining g.W.Write.contents g.F.Write.contents c.args.console.now (g.H.Host.state c.args.host.now) in
     let ran_on = c.run-ran.new.console in
@@ -25,7 +23,7 @@ returns-in-Ok-clause-ran g c =
     (account_at g.W.Write.contents c.flush.new.self) (account_at g.F.Write.contents ran_on.outputs.faults) (g.H.Host.state c.run-ran.new.host) in
     let is : c.run-ran.result ≡ Ok c.in_ok-ran-in-Ok.field-0 = search rules in
     RanShell-flushed old new (Ok c.in_ok-ran-in-Ok.field-0) (beginning_in job) (source_in job) (source_by (option_copied c.as_deref.result))
-    (options_in job) (record { home = c.unwrap_or.result.now; refusals = job.refusals })
+    (options_in job) (record { home = option_copied c.home.result; refusals = job.refusals })
     (g.H.Host.state c.first_session.new.host)
     c.in_ok-session.session c.run-ran.new.session (g.W.Write.contents c.run-ran.new.console.outputs.output.writer.now)
     c.in_ok-session.ensures.session source options (rw is at c.run-ran.ensures.ran) c.flush.ensures.kept
@@ -34,10 +32,8 @@ returns-in-Ok-clause-ran g c =
 pub returns-in_err-ran-in-Ok-clause-stopped : goal.returns-in_err-ran-in-Ok-clause-stopped
 returns-in_err-ran-in-Ok-clause-stopped g c =
     let job = c.args.self in
-    let home : c.unwrap_or.result.now ≡ home_of (option_copied job.image) =
-    ap (λ text. text.now) c.unwrap_or.ensures ∙ home_is job.image _ (search rules) in
-    let options : record { home = c.unwrap_or.result.now; refusals = job.refusals } ≡ options_in job =
-    ap (λ h. record { home = h; refusals = job.refusals }) home in
+    let options : record { home = option_copied c.home.result; refusals = job.refusals } ≡ options_in job =
+    ap (λ h. record { home = h; refusals = job.refusals }) c.home.ensures in
     let source : source_by (option_copied c.as_deref.result) ≡ source_in job = search rules in
     let old : Outside = outside_at g.R.Read.remaining g.W.Write.contents g.F.Write.contents c.args.console.now (g.H.Host.state c.args.host.now) in
     let ran_on = c.run-ran.new.console in
@@ -45,7 +41,7 @@ returns-in_err-ran-in-Ok-clause-stopped g c =
     (account_at g.W.Write.contents c.flush.new.self) (account_at g.F.Write.contents ran_on.outputs.faults) (g.H.Host.state c.run-ran.new.host) in
     let is : c.run-ran.result ≡ Err c.in_err-ran-in-Ok.field-0.0 = search rules in
     let ran = RanShell-flushed old new (Err c.in_err-ran-in-Ok.field-0.0) (beginning_in job) (source_in job) (source_by (option_copied c.as_deref.result))
-    (options_in job) (record { home = c.unwrap_or.result.now; refusals = job.refusals })
+    (options_in job) (record { home = option_copied c.home.result; refusals = job.refusals })
     (g.H.Host.state c.first_session.new.host)
     c.in_ok-session.session c.run-ran.new.session (g.W.Write.contents c.run-ran.new.console.outputs.output.writer.now)
     c.in_ok-session.ensures.session source options (rw is at c.run-ran.ensures.ran) c.flush.ensures.kept in
@@ -57,10 +53,8 @@ returns-in_err-ran-in-Ok-clause-stopped g c =
 pub returns-clause-stopped : goal.returns-clause-stopped
 returns-clause-stopped g c =
     let job = c.args.self in
-    let home : c.unwrap_or.result.now ≡ home_of (option_copied job.image) =
-    ap (λ text. text.now) c.unwrap_or.ensures ∙ home_is job.image _ (search rules) in
-    let options : record { home = c.unwrap_or.result.now; refusals = job.refusals } ≡ options_in job =
-    ap (λ h. record { home = h; refusals = job.refusals }) home in
+    let options : record { home = option_copied c.home.result; refusals = job.refusals } ≡ options_in job =
+    ap (λ h. record { home = h; refusals = job.refusals }) c.home.ensures in
     let source : source_by (option_copied c.as_deref.result) ≡ source_in job = search rules in
     let old : Outside = outside_at g.R.Read.remaining g.W.Write.contents g.F.Write.contents c.args.console.now (g.H.Host.state c.args.host.now) in
     let ran_on = c.run-ran.new.console in
@@ -69,7 +63,7 @@ returns-clause-stopped g c =
     inr (inr (
       c.run-ran.result,
       RanShell-flushed old new c.run-ran.result (beginning_in job) (source_in job) (source_by (option_copied c.as_deref.result))
-          (options_in job) (record { home = c.unwrap_or.result.now; refusals = job.refusals })
+          (options_in job) (record { home = option_copied c.home.result; refusals = job.refusals })
           (g.H.Host.state c.first_session.new.host)
           c.in_ok-session.session c.run-ran.new.session (g.W.Write.contents c.run-ran.new.console.outputs.output.writer.now)
           c.in_ok-session.ensures.session source options c.run-ran.ensures.ran c.flush.ensures.kept,

@@ -10,9 +10,10 @@ use Rattle.cmd_catalogue.specs.Catalogue.{catalogue_printing, catalogue_rule, ca
 use Rattle.cmd_catalogue.specs.declared.catalogue_printer.CataloguePrinter.{CataloguePrinter}
 use Rattle.cmd_check.specs.declared.check_printer.CheckPrinter.{CheckPrinter}
 use Rattle.std.specs.Prelude.{[], ◌∷◌, string_bytes}
-use Rattle.script_run.specs.Transcript.{RunOptions}
+use Rattle.std.specs.Option.{option_and_then}
+use Rattle.script_run.specs.Transcript.{RunOptions, home_of}
 use Rattle.script_run.specs.declared.run_options.Refusals.{Refusals}
-use Rattle.cmd_shell.specs.Beginnings.{beginning_of, home_of, refusals_of, source_of}
+use Rattle.cmd_shell.specs.Beginnings.{beginning_of, refusals_of, source_of}
 use Rattle.d64_shell.specs.Jobs.{form_of, setup_of, work_of}
 use Rattle.program_surveys.specs.SurveyFiles.{Named, files_in, survey_files_of}
 use Rattle.program_console.specs.Outside.{account_at, outside_at, outside_of}
@@ -27,7 +28,7 @@ returns-in-Shell-clause-ended g c =
     let resume : option_copied c.as_deref-in-Shell.result ≡ option_map string_bytes c.in-Shell.resume = search rules in
     let beginning = beginning_of (option_copied c.as_deref.result) c.in-Shell.tracks (option_copied c.as_deref-in-Shell.result) in
     let source = source_of (map string_bytes c.as_slice.result.now) in
-    let options : RunOptions = record { home = home_of (option_copied c.as_deref.result); refusals = c.refusals_of.result } in
+    let options : RunOptions = record { home = option_and_then home_of (option_copied c.as_deref.result); refusals = c.refusals_of.result } in
     let old = outside_at g.R.Read.remaining g.W.Write.contents g.F.Write.contents c.args.console.now (g.H.Host.state c.args.host.now) in
     let ran = c.run.new.console in
     let reader = g.R.Read.remaining ran.input.reader.now in
@@ -39,12 +40,12 @@ returns-in-Shell-clause-ended g c =
     script_ended c.args.job
     (beginning_of (option_map string_bytes c.in-Shell.image) c.in-Shell.tracks (option_map string_bytes c.in-Shell.resume)) beginning
     (source_of (map string_bytes c.in-Shell.lines.items)) source
-    (record { home = home_of (option_map string_bytes c.in-Shell.image); refusals = refusals_of c.in-Shell.stops_at_refusal }) options
+    (record { home = option_and_then home_of (option_map string_bytes c.in-Shell.image); refusals = refusals_of c.in-Shell.stops_at_refusal }) options
     old (outside_of reader reading output reported host) c.report_on.result
     (ap work_of c.in-Shell.is)
     (ap₂ (λ (i : Option (List ℕ)) (r : Option (List ℕ)). beginning_of i c.in-Shell.tracks r) image resume)
     (ap source_of (ap (map string_bytes) c.as_slice.ensures.value))
-    (let options : (h : List ℕ) → Refusals → RunOptions = λ h r. record { home = h; refusals = r } in ap₂ options (ap home_of image) c.refusals_of.ensures)
+    (let options : (h : Option (List ℕ)) → Refusals → RunOptions = λ h r. record { home = h; refusals = r } in ap₂ options (ap (option_and_then home_of) image) c.refusals_of.ensures)
     (inr (
       c.in-Err.fault,
       stopped_reported c.in-Err.fault beginning source options old reader reading output error reported host c.in-Err.ensures.stopped,

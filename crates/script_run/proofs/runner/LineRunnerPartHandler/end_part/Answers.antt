@@ -11,7 +11,7 @@ returns-in-Err-clause-came g c = λ first parts part come is_open next more.
       keeps = KeepsRun-line first _ c.run_line.new.self _ c.end_with_line_feed.new.self c.run_line.new.self.line refl come.keeps c.run_line.ensures.kept;
       ran = (
         refl,
-        StoppedAt-part (options_of first.options) _ _ _ _ parts more part next _ come.ran come.open_run (ap options_of come.keeps.options)
+        StoppedAt-part (options_of first.options.now) _ _ _ _ parts more part next _ come.ran come.open_run (ap options_of come.keeps.options)
             (c.in-Err.ensures.ran (ended_line part) says come.open_run),
         c.in-Err.ensures.failed,
       );
@@ -20,11 +20,11 @@ returns-in-Err-clause-came g c = λ first parts part come is_open next more.
 pub returns-then-self-clause-came : goal.returns-then-self-clause-came
 returns-then-self-clause-came g c = λ first parts part come is_open next more.
     let says = c.end_with_line_feed.ensures part come.held is_open in
-    let ran = RanLines-part (options_of first.options) _ _ _ _ parts part _ _ come.ran come.open_run (ap options_of come.keeps.options)
+    let ran = RanLines-part (options_of first.options.now) _ _ _ _ parts part _ _ come.ran come.open_run (ap options_of come.keeps.options)
     (c.in-Ok.ensures.ran (ended_line part) says come.open_run) in
     record {
       keeps = KeepsRun-line first _ c.run_line.new.self _ c.end_with_line_feed.new.self c.run_line.new.self.line refl come.keeps c.run_line.ensures.kept;
-      ran = (_, RanLines-ending (options_of first.options) _ _ parts more part next _ ran c.if-self.true, refl, refl, c.in-Ok.ensures.failed ∙ come.unfailed);
+      ran = (_, RanLines-ending (options_of first.options.now) _ _ parts more part next _ ran c.if-self.true, refl, refl, c.in-Ok.ensures.failed ∙ come.unfailed);
     }
 
 pub returns-clause-came : goal.returns-clause-came
@@ -32,7 +32,7 @@ returns-clause-came g c = λ first parts part come is_open.
     let says = c.end_with_line_feed.ensures part come.held is_open in
     record {
       keeps = KeepsRun-line first _ c.run_line.new.self _ c.end_with_line_feed.new.self c.clear.new.self refl come.keeps c.run_line.ensures.kept;
-      ran = RanLines-part (options_of first.options) _ _ _ _ parts part _ _ come.ran come.open_run (ap options_of come.keeps.options)
+      ran = RanLines-part (options_of first.options.now) _ _ _ _ parts part _ _ come.ran come.open_run (ap options_of come.keeps.options)
           (c.in-Ok.ensures.ran (ended_line part) says come.open_run);
       held = c.clear.ensures;
       open_run = c.if-self.false;

@@ -9,7 +9,7 @@ pub returns-in-Ok-clause-came : goal.returns-in-Ok-clause-came
 returns-in-Ok-clause-came g c = λ first parts begun delivered come. (
   record {
     keeps = KeepsRun-trans first _ _ come.keeps record { options = refl; observer = refl; output = refl; writer = c.deliver.ensures.same; host = refl; session = refl };
-    ran = RanLines-flushed (options_of first.options) _ _ _ _ _ come.ran c.deliver.ensures.kept;
+    ran = RanLines-flushed (options_of first.options.now) _ _ _ _ _ come.ran c.deliver.ensures.kept;
     held = come.held;
     open_run = come.open_run;
     unfailed = c.in-Ok.ensures.failed ∙ come.unfailed;
@@ -21,5 +21,5 @@ returns-in-Ok-clause-came g c = λ first parts begun delivered come. (
 pub returns-in-Err-clause-came : goal.returns-in-Err-clause-came
 returns-in-Err-clause-came g c = λ first parts begun delivered come last more. record {
   keeps = KeepsRun-trans first _ _ come.keeps record { options = refl; observer = refl; output = refl; writer = c.deliver.ensures.same; host = refl; session = refl };
-  ran = (refl, StoppedAt-before (options_of first.options) _ _ parts more (begun ++ last) _ _ come.ran come.open_run (come.observed delivered c.in-Err.ensures.some) c.deliver.ensures.kept, c.in-Err.ensures.failed);
+  ran = (refl, StoppedAt-before (options_of first.options.now) _ _ parts more (begun ++ last) _ _ come.ran come.open_run (come.observed delivered c.in-Err.ensures.some) c.deliver.ensures.kept, c.in-Err.ensures.failed);
 }
