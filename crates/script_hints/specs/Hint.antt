@@ -1,14 +1,14 @@
 -- The hints for the commands of `c1541`, and for other names that people try.
-use Rattle.std.specs.Prelude.{List, [], ◌∷◌, find, codes}
+use Rattle.std.specs.Prelude.{List, [], ◌∷◌, ◌++◌, find, codes}
 use Rattle.std.specs.Option.{option_map_or}
 use Rattle.std.specs.Str.{bytes_eq}
 use Rattle.d64_image.specs.Disk.{Bytes}
 use Rattle.script_hints.specs.declared.hint.Hint.{Hint}
 use Rattle.script_hints.specs.declared.hint.Hint.TheVariants.{Fault, Image, Map, CopyBlock, FillBlock, ShowBlock, ChangeBlock, Folder, Chain, Copy, Directory, Entry, End, Extract, Help, Check, Scratch, ShowText, Restore, Version, Absent, Unknown}
 
--- the names that are no commands here
-abbrev pub hint_words : List (Bytes × Hint)
-hint_words =
+-- the names that are no commands here and ask for the disk or its blocks
+abbrev pub disk_hints : List (Bytes × Hint)
+disk_hints =
     (codes "@", Fault)
     ∷ (codes "attach", Image)
     ∷ (codes "unit", Image)
@@ -17,21 +17,22 @@ hint_words =
     ∷ (codes "bfill", FillBlock)
     ∷ (codes "bpeek", ShowBlock)
     ∷ (codes "bpoke", ChangeBlock)
-    ∷ (codes "cd", Folder)
-    ∷ (codes "pwd", Folder)
     ∷ (codes "chain", Chain)
+    ∷ (codes "entry", Entry)
+    ∷ (codes "info", Check)
+    ∷ (codes "verify", Check)
+    ∷ []
+
+-- those that ask for its files or its directory
+abbrev pub file_hints : List (Bytes × Hint)
+file_hints =
+    (codes "cd", Folder)
+    ∷ (codes "pwd", Folder)
     ∷ (codes "copy", Copy)
     ∷ (codes "dir", Directory)
     ∷ (codes "ls", Directory)
     ∷ (codes "$", Directory)
-    ∷ (codes "entry", Entry)
-    ∷ (codes "exit", End)
-    ∷ (codes "x", End)
     ∷ (codes "extract", Extract)
-    ∷ (codes "help", Help)
-    ∷ (codes "?", Help)
-    ∷ (codes "info", Check)
-    ∷ (codes "verify", Check)
     ∷ (codes "scratch", Scratch)
     ∷ (codes "rm", Scratch)
     ∷ (codes "show", ShowText)
@@ -40,6 +41,15 @@ hint_words =
     ∷ (codes "unscratch", Restore)
     ∷ (codes "unerase", Restore)
     ∷ (codes "recover", Restore)
+    ∷ []
+
+-- the others
+abbrev pub other_hints : List (Bytes × Hint)
+other_hints =
+    (codes "exit", End)
+    ∷ (codes "x", End)
+    ∷ (codes "help", Help)
+    ∷ (codes "?", Help)
     ∷ (codes "version", Version)
     ∷ (codes "geosextract", Absent)
     ∷ (codes "geosread", Absent)
@@ -54,9 +64,13 @@ hint_words =
     ∷ (codes "zcreate", Absent)
     ∷ []
 
+-- what a name asks for, by these rows
+abbrev pub hint_in : List (Bytes × Hint) → Bytes → Hint
+hint_in rows word = option_map_or (λ row. row.1) (find (λ row. bytes_eq word row.0) rows) Unknown
+
 -- what a name asks for
 abbrev pub hint_for : Bytes → Hint
-hint_for word = option_map_or (λ row. row.1) (find (λ row. bytes_eq word row.0) hint_words) Unknown
+hint_for word = hint_in (disk_hints ++ file_hints ++ other_hints) word
 
 -- the text of a hint
 abbrev pub hint_text : Hint → Bytes

@@ -1,6 +1,6 @@
 //! The hints for the commands of `c1541`, and for other names that people try.
-ghost use Rattle.std.specs.Prelude.{◌≡◌};
-ghost use Rattle.script_hints.specs.Hint.{hint_for, hint_text};
+ghost use Rattle.std.specs.Prelude.{◌≡◌, ◌++◌};
+ghost use Rattle.script_hints.specs.Hint.{file_hints, hint_for, hint_in, hint_text, other_hints};
 
 /// What a name that is no command asks for.
 #[derive(Clone, Copy)]
@@ -44,42 +44,11 @@ impl Hint {
             "bfill" => Hint::FillBlock,
             "bpeek" => Hint::ShowBlock,
             "bpoke" => Hint::ChangeBlock,
-            "cd" => Hint::Folder,
-            "pwd" => Hint::Folder,
             "chain" => Hint::Chain,
-            "copy" => Hint::Copy,
-            "dir" => Hint::Directory,
-            "ls" => Hint::Directory,
-            "$" => Hint::Directory,
             "entry" => Hint::Entry,
-            "exit" => Hint::End,
-            "x" => Hint::End,
-            "extract" => Hint::Extract,
-            "help" => Hint::Help,
-            "?" => Hint::Help,
             "info" => Hint::Check,
             "verify" => Hint::Check,
-            "scratch" => Hint::Scratch,
-            "rm" => Hint::Scratch,
-            "show" => Hint::ShowText,
-            "cat" => Hint::ShowText,
-            "more" => Hint::ShowText,
-            "unscratch" => Hint::Restore,
-            "unerase" => Hint::Restore,
-            "recover" => Hint::Restore,
-            "version" => Hint::Version,
-            "geosextract" => Hint::Absent,
-            "geosread" => Hint::Absent,
-            "geoswrite" => Hint::Absent,
-            "p00save" => Hint::Absent,
-            "parse" => Hint::Absent,
-            "silent" => Hint::Absent,
-            "tape" => Hint::Absent,
-            "unlynx" => Hint::Absent,
-            "unzip" => Hint::Absent,
-            "verbose" => Hint::Absent,
-            "zcreate" => Hint::Absent,
-            _ => Hint::Unknown,
+            _ => about_files(word),
         }
     }
 
@@ -111,5 +80,54 @@ impl Hint {
             Hint::Absent => b"; d64sh has no command for this",
             Hint::Unknown => b"; d64sh help shell lists the commands",
         }
+    }
+}
+
+/// What a name asks for that is about files, or one of those below.
+fn about_files(word: &str) -> Hint
+    ensures { result ≡ hint_in (file_hints ++ other_hints) word.now }
+{
+    match word {
+        "cd" => Hint::Folder,
+        "pwd" => Hint::Folder,
+        "copy" => Hint::Copy,
+        "dir" => Hint::Directory,
+        "ls" => Hint::Directory,
+        "$" => Hint::Directory,
+        "extract" => Hint::Extract,
+        "scratch" => Hint::Scratch,
+        "rm" => Hint::Scratch,
+        "show" => Hint::ShowText,
+        "cat" => Hint::ShowText,
+        "more" => Hint::ShowText,
+        "unscratch" => Hint::Restore,
+        "unerase" => Hint::Restore,
+        "recover" => Hint::Restore,
+        _ => about_others(word),
+    }
+}
+
+/// What another name asks for.
+fn about_others(word: &str) -> Hint
+    ensures { result ≡ hint_in other_hints word.now }
+{
+    match word {
+        "exit" => Hint::End,
+        "x" => Hint::End,
+        "help" => Hint::Help,
+        "?" => Hint::Help,
+        "version" => Hint::Version,
+        "geosextract" => Hint::Absent,
+        "geosread" => Hint::Absent,
+        "geoswrite" => Hint::Absent,
+        "p00save" => Hint::Absent,
+        "parse" => Hint::Absent,
+        "silent" => Hint::Absent,
+        "tape" => Hint::Absent,
+        "unlynx" => Hint::Absent,
+        "unzip" => Hint::Absent,
+        "verbose" => Hint::Absent,
+        "zcreate" => Hint::Absent,
+        _ => Hint::Unknown,
     }
 }
