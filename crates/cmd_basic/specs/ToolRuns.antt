@@ -20,9 +20,9 @@ use Rattle.cmd_basic.specs.Tools.{HasRead, HasStored, HasWritten, RanTool, Reads
 use Rattle.cmd_basic.specs.declared.tools.Tool.{Tool}
 use Rattle.cmd_basic.specs.declared.tools.ToolFault.{ToolFault}
 use Rattle.cmd_basic.specs.declared.tools.ToolFault.TheVariants as tool_faults
-use Rattle.program_exit.specs.declared.program_fault.ProgramFault.TheVariants.{Read, Write, Memory}
+use Rattle.program_console.specs.declared.program_fault.ProgramFault.TheVariants.{Read, Write, Memory}
 use Rattle.program_console.specs.Outside.{Outside}
-use Rattle.program_exit.specs.Faults.{Reports}
+use Rattle.program_console.specs.Faults.{Reports}
 use Rattle.program_batch.specs.Reasons.{IsWriteReason, with_known_reason}
 use Rattle.program_batch.specs.declared.reason.Reason.{Reason}
 

@@ -17,10 +17,10 @@ use cbm_text::ListFault;
 use host_storage::{Host, HostFault};
 use out_messages::unwritten_line;
 use program_batch::{push_known_reason, reason_unwritten};
-use program_console::Console;
-use program_exit::{ALL_ACCEPTED, NOT_RUN, ProgramFault, SOME_REFUSED, fetch_file};
+use program_console::{ALL_ACCEPTED, Console, NOT_RUN, ProgramFault, SOME_REFUSED};
+use script_commands::host_file::fetch;
 use script_commands::status_from::of_list_fault;
-use script_text::input::InputStream;
+use script_text::input::{INPUT_BYTES, InputStream};
 use script_text::output::OutputStream;
 use std::alloc::{AllocError, Global};
 use std::io::{Read, Write};
@@ -86,7 +86,7 @@ impl<'n> StoredTool<'n> {
         let Some(name) = self.file else {
             return whole_input(alloc, input);
         };
-        match fetch_file(alloc, host, name) {
+        match fetch(alloc, host, name, INPUT_BYTES) {
             Ok(bytes) => Ok(bytes),
             Err(HostFault::Memory(error)) => Err(ToolFault::Memory(error)),
             Err(HostFault::Missing | HostFault::Device | HostFault::TooLong) => {

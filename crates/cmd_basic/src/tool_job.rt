@@ -11,9 +11,10 @@ ghost use Rattle.cmd_basic.specs.Tools.{ReadsWith, HasSmallLine, WritesWith};
 use crate::stored_tool::StoredTool;
 use crate::tools::{Tool, ToolFault};
 use host_storage::{Host, HostFault};
-use program_console::Console;
-use program_exit::{ALL_ACCEPTED, ProgramFault, SOME_REFUSED, fetch_file};
+use program_console::{ALL_ACCEPTED, Console, ProgramFault, SOME_REFUSED};
+use script_commands::host_file::fetch;
 use script_commands::status_from::{of_basic_fault, of_list_fault};
+use script_text::input::INPUT_BYTES;
 use script_text::output::OutputStream;
 use script_text::status::Status;
 use std::alloc::Global;
@@ -107,7 +108,7 @@ fn write_result<R: Read, W: Write, F: Write, H: Host>(
     let Some(name) = name else {
         return tool.run(alloc, &mut console.input, &mut console.outputs.output);
     };
-    match fetch_file(alloc, host, name) {
+    match fetch(alloc, host, name, INPUT_BYTES) {
         Ok(bytes) => tool.write(alloc, &bytes, &mut console.outputs.output),
         Err(HostFault::Memory(error)) => Err(ToolFault::Memory(error)),
         Err(HostFault::Missing | HostFault::Device | HostFault::TooLong) => Err(ToolFault::Read),

@@ -9,7 +9,7 @@ use d64_inventory::is_amiss;
 use d64_survey::Inspection;
 use out_messages::push_no_dump;
 use program_arguments::Page;
-use program_reports::Printer;
+use program_surveys::Printer;
 use std::alloc::{AllocError, Global};
 
 /// The printer of `catalogue`, with the buffers that it uses for one file after another.

@@ -12,7 +12,7 @@ use Rattle.out_json_csv.specs.Rows.{header_row, unanswered_row}
 use Rattle.out_json_csv.specs.Unanswered.{unread_object, no_dump_object, no_dump_error}
 use Rattle.out_messages.specs.CheckText.{check_text}
 use Rattle.program_batch.specs.Answers.{Rule}
-use Rattle.program_reports.specs.Printings.{Printing, survey_rule}
+use Rattle.program_surveys.specs.Printings.{Printing, survey_rule}
 
 -- the digest of bytes, if it is asked for
 abbrev pub digest_of : Bool → Bytes → Option Bytes

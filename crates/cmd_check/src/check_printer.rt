@@ -8,7 +8,7 @@ use out_json_csv::{
 };
 use out_messages::check_text;
 use program_arguments::Format;
-use program_reports::Printer;
+use program_surveys::Printer;
 use sha2::{Digest, Sha256};
 use std::alloc::{AllocError, Global};
 

@@ -1,3 +1,4 @@
 pub mod Keeping
 pub mod Printed
 pub mod Unchanged
+mod ComparisonRuns

@@ -4,3 +4,4 @@ pub mod ChangeText
 pub mod Differences
 pub mod Quiet
 pub mod Laws
+pub mod Comparisons

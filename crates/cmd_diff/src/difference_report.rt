@@ -11,7 +11,7 @@ use d64_survey::Inspection;
 use out_json_csv::Scratch;
 use program_arguments::DiffForm;
 use program_batch::{Reason, ReportBuffer, Verdict};
-use program_reports::DumpBuffer;
+use program_surveys::DumpBuffer;
 use std::alloc::{AllocError, Global};
 use std::mem;
 

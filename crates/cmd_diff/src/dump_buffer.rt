@@ -5,7 +5,7 @@ ghost use Rattle.d64_g64.specs.DumpOf.{dump_of};
 ghost use Rattle.cmd_diff.specs.Differences.{are_same};
 
 use d64_survey::{Dump, DumpFault};
-use program_reports::DumpBuffer;
+use program_surveys::DumpBuffer;
 use std::alloc::AllocError;
 
 /// Replaces the dump by the one with these bytes, and returns whether there is such a dump.

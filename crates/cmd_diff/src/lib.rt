@@ -3,6 +3,7 @@
 #![tactic(auto)]
 
 mod blocks;
+mod difference_job;
 mod difference_report;
 mod drafts;
 mod dump_buffer;
@@ -14,6 +15,7 @@ mod slots;
 mod unanswered;
 
 pub use blocks::{list_changed_blocks, list_changed_codes};
+pub use difference_job::{DifferenceJob, read_contents};
 pub use difference_report::DifferenceReport;
 pub use laws::{equal_dumps_are_silent, images_are_listed};
 pub use unanswered::{print_fault, push_fault_line};

@@ -9,7 +9,7 @@ use d64_inventory::is_amiss;
 use d64_survey::Inspection;
 use out_json_csv::{Scratch, no_dump_json, unread_json};
 use program_arguments::Format;
-use program_reports::Printer;
+use program_surveys::Printer;
 use std::alloc::{AllocError, Global};
 
 /// The printer of `files`, with the buffers that it uses for one file after another.

@@ -6,7 +6,7 @@ use crate::svg::map_svg;
 use crate::text::map_text;
 use d64_survey::Inspection;
 use program_arguments::PictureForm;
-use program_reports::Printer;
+use program_surveys::Printer;
 use std::alloc::AllocError;
 
 /// The printer of `map`.

@@ -3,3 +3,4 @@ pub mod Objects
 pub mod Lines
 pub mod Reports
 pub mod Finishing
+pub mod Merges

@@ -4,11 +4,13 @@
 
 mod finishing;
 mod lines;
+mod merge_job;
 mod objects;
 mod readings;
 mod report;
 mod setup;
 
 pub use finishing::{finish, say_present};
+pub use merge_job::MergeJob;
 pub use readings::Readings;
 pub use setup::MergeSetup;

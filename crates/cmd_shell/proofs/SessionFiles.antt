@@ -10,7 +10,7 @@ use Rattle.d64_undo.specs.ResumeFault.{first_resume_fault, reported_by}
 use Rattle.d64_undo.specs.declared.resume_fault.ResumeFault.{ResumeFault}
 use Rattle.d64_undo.specs.declared.resume_fault.ResumeFault.TheVariants as resumes
 use Rattle.cmd_shell.specs.ShellRuns.{GivesNoSession}
-use Rattle.program_exit.specs.Faults.{fault_of_resume}
+use Rattle.cmd_shell.specs.ShellFaults.{fault_of_resume}
 
 -- a file of which all bytes were read
 pub fetches_read : (files : Option Files) (name : List ℕ) (limit : ℕ) (rest : Option (List ℕ)) (bytes : List ℕ)

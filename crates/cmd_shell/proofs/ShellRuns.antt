@@ -10,9 +10,10 @@ use Rattle.d64_undo.specs.History.{History}
 use Rattle.cmd_shell.specs.Beginnings.{Beginning, Blank, ImageFile, SessionFile, Source, Input, Given}
 use Rattle.cmd_shell.specs.ShellRuns.{GivesNoImage, GivesNoSession, HasNoHistory, HasNoText, IsDue, IsFirstHistory, IsReadDue, RanFrom, RanShell, IsRunReportedAs, StoppedBy}
 use Rattle.program_console.specs.Outside.{Outside, outside_of}
-use Rattle.program_exit.specs.Faults.{fault_of_file, fault_of_resume, fault_of_run}
-use Rattle.program_exit.specs.declared.program_fault.ProgramFault.{ProgramFault}
-use Rattle.program_exit.specs.declared.program_fault.ProgramFault.TheVariants as faults
+use Rattle.program_console.specs.Faults.{fault_of_file}
+use Rattle.cmd_shell.specs.ShellFaults.{fault_of_resume, fault_of_run}
+use Rattle.program_console.specs.declared.program_fault.ProgramFault.{ProgramFault}
+use Rattle.program_console.specs.declared.program_fault.ProgramFault.TheVariants as faults
 use Rattle.host_storage.specs.declared.host.HostFault.{HostFault}
 use Rattle.host_storage.specs.declared.host.HostFault.TheVariants as files
 use Rattle.d64_undo.specs.declared.resume_fault.ResumeFault.{ResumeFault}

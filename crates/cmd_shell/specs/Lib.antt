@@ -1,3 +1,4 @@
 pub mod Beginnings
 pub mod Scripts
+pub mod ShellFaults
 pub mod ShellRuns

@@ -15,10 +15,11 @@ use Rattle.script_run.specs.Runner.{Ran, ScriptState}
 use Rattle.script_run.specs.Transcript.{RunOptions}
 use Rattle.script_run.specs.declared.runner.Outcome.{Outcome}
 use Rattle.script_run.specs.declared.runner.ShellFault.{ShellFault}
-use Rattle.program_exit.specs.declared.program_fault.ProgramFault.{ProgramFault}
-use Rattle.program_exit.specs.declared.program_fault.ProgramFault.TheVariants.{WrongLength, UnreadableImage, UnreadableSession, Read, Write, Memory}
+use Rattle.program_console.specs.declared.program_fault.ProgramFault.{ProgramFault}
+use Rattle.program_console.specs.declared.program_fault.ProgramFault.TheVariants.{WrongLength, UnreadableImage, UnreadableSession, Read, Write, Memory}
 use Rattle.program_console.specs.Outside.{Outside}
-use Rattle.program_exit.specs.Faults.{fault_of_file, fault_of_resume, fault_of_run, Reports}
+use Rattle.program_console.specs.Faults.{fault_of_file, Reports}
+use Rattle.cmd_shell.specs.ShellFaults.{fault_of_resume, fault_of_run}
 use Rattle.cmd_shell.specs.Beginnings.{Beginning, Blank, ImageFile, SessionFile, Source, Input, Given}
 
 -- the most bytes of a session file that are read

@@ -2,6 +2,7 @@
 //! one, or on a session that was kept.
 #![tactic(auto)]
 
+mod faults;
 mod shell_job;
 
 pub use shell_job::{ShellJob, exit_status, refusals_of};

@@ -12,14 +12,16 @@ ghost use Rattle.cmd_shell.specs.ShellRuns.{IsDue, IsFirstHistory, IsReadDue, Ha
 ghost use Rattle.program_console.specs.Console.{IsDelivered, IsFresh, SameStreams};
 ghost use Rattle.program_console.specs.Outside.{outside_at};
 
+use crate::faults::{fault_of_image, fault_of_resume, fault_of_run};
 use d64_image::{BLOCKS, Image, ImageFault, blocks_of};
 use d64_undo::{Session, SessionReadFault, resume_from};
 use host_storage::{Host, HostFault};
-use program_console::Console;
-use program_exit::{ALL_ACCEPTED, ProgramFault, SOME_REFUSED, fetch_file};
+use program_console::{ALL_ACCEPTED, Console, ProgramFault, SOME_REFUSED};
+use script_commands::host_file::fetch;
 use script_run::{
     Observer, Opening, Outcome, Refusals, RunOptions, ScriptRunner, ShellFault, home_of,
 };
+use script_text::input::INPUT_BYTES;
 use std::alloc::{AllocError, Global};
 use std::io::{Read, Write};
 
@@ -85,7 +87,10 @@ impl<'n> ShellJob<'n> {
         let ran = script.run(console, host, &mut session, observer);
         observer.end(self.home(), &session);
         match console.outputs.output.flush() {
-            Ok(()) => Ok(ran?),
+            Ok(()) => match ran {
+                Ok(outcome) => Ok(outcome),
+                Err(fault) => Err(fault_of_run(fault)),
+            },
             Err(_) => Err(ProgramFault::Write),
         }
     }
@@ -236,7 +241,7 @@ fn session_of_file<H: Host, L: Observer>(
     };
     match resume_from(alloc, &mut file, SESSION_BYTES) {
         Ok(session) => Ok(session),
-        Err(SessionReadFault::Resume(fault)) => Err(fault.into()),
+        Err(SessionReadFault::Resume(fault)) => Err(fault_of_resume(fault)),
         Err(SessionReadFault::TooLong) => Err(ProgramFault::UnreadableSession),
         Err(SessionReadFault::Device) => {
             observer.miss(name, Err(HostFault::Device));
@@ -274,7 +279,7 @@ fn image_of_file<H: Host, L: Observer>(
         (H.state host.new)
         × GivesNoImage fetched fault) }
 {
-    match fetch_file(alloc, host, name) {
+    match fetch(alloc, host, name, INPUT_BYTES) {
         Ok(bytes) => image_of_bytes(alloc, name, bytes.as_slice(), observer),
         Err(fault) => {
             observer.miss(name, Err(fault));
@@ -299,7 +304,7 @@ fn image_of_bytes<L: Observer>(
             if let ImageFault::WrongLength(_) = fault {
                 observer.miss(name, Ok(bytes));
             }
-            Err(fault.into())
+            Err(fault_of_image(fault))
         }
     }
 }

@@ -4,8 +4,8 @@ use Rattle.std.specs.Prelude.{IfOk}
 use Rattle.script_text.specs.Output.{Account}
 use Rattle.program_arguments.specs.declared.jobs.Job.{Job}
 use Rattle.program_batch.specs.Answers.{KeepsQuiet, Rule, by_rule}
-use Rattle.program_reports.specs.Printings.{Printing, survey_rule}
-use Rattle.program_reports.proofs.Quiet.{survey-is_quiet}
+use Rattle.program_surveys.specs.Printings.{Printing, survey_rule}
+use Rattle.program_surveys.proofs.Quiet.{survey-is_quiet}
 use Rattle.cmd_extract.specs.Effects.{unpacks}
 use Rattle.cmd_extract.specs.Setup.{ExtractSetupView}
 use Rattle.cmd_extract.specs.declared.unpacker.Unpacker.{Unpacker}
@@ -15,8 +15,8 @@ use Rattle.cmd_shell.specs.Beginnings.{Beginning, Source}
 use Rattle.d64_shell.specs.Jobs.{JobWork, Script, Survey, Extraction, PassesOver, work_of}
 use Rattle.program_surveys.specs.SurveyFiles.{SurveyFiles}
 use Rattle.program_console.specs.Outside.{Outside}
-use Rattle.program_exit.specs.Faults.{Reports}
-use Rattle.program_exit.specs.declared.program_fault.ProgramFault.{ProgramFault}
+use Rattle.program_console.specs.Faults.{Reports}
+use Rattle.program_console.specs.declared.program_fault.ProgramFault.{ProgramFault}
 use Rattle.cmd_shell.specs.ShellRuns.{EndedShell}
 use Rattle.program_surveys.specs.JobEnds.{EndedSurvey}
 use Rattle.d64_shell.specs.Program.{EndedWork}

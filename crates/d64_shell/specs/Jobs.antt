@@ -3,7 +3,7 @@ use Rattle.std.specs.Prelude.{◌≡◌, ℕ, true, List, [], ◌∷◌, Option,
 use Rattle.std.specs.Option.{option_and_then}
 use Rattle.program_arguments.specs.declared.jobs.Job.{Job}
 use Rattle.program_surveys.specs.SurveyFiles.{SurveyFiles, Named, survey_files_of}
-use Rattle.program_surveys.specs.Comparisons.{PairRule}
+use Rattle.cmd_diff.specs.Comparisons.{PairRule}
 use Rattle.script_run.specs.Transcript.{RunOptions, home_of}
 use Rattle.cmd_basic.specs.declared.tools.Tool.{Tool}
 use Rattle.program_arguments.specs.declared.jobs.Job.TheVariants.{Shell, Petcat, Crunch, Check, Files, Extract, Map, Catalogue, Diff, Merge}

@@ -8,10 +8,11 @@ use Rattle.program_arguments.specs.declared.jobs.JobFault.TheVariants.{Words}
 use Rattle.program_batch.specs.Answers.{by_rule}
 use Rattle.cmd_extract.specs.Effects.{unpacks}
 use Rattle.program_console.specs.Outside.{Outside}
-use Rattle.program_exit.specs.WordFaults.{ReportsNoJob}
+use Rattle.program_console.specs.NoJob.{ReportsNoJob}
 use Rattle.cmd_basic.specs.ToolRuns.{EndedConversion}
-use Rattle.program_surveys.specs.JobEnds.{EndedSurvey, EndedComparison}
-use Rattle.program_surveys.specs.Merges.{EndedMerge}
+use Rattle.cmd_diff.specs.Comparisons.{EndedComparison}
+use Rattle.program_surveys.specs.JobEnds.{EndedSurvey}
+use Rattle.cmd_merge.specs.Merges.{EndedMerge}
 use Rattle.cmd_shell.specs.ShellRuns.{EndedShell}
 use Rattle.d64_shell.specs.Jobs.{JobWork, Script, Conversion, Survey, Extraction, Comparison, Merging, work_of, IsScript, PassesOver}
 

@@ -16,6 +16,5 @@ pub use d64_undo::{Answer, NothingToRedo, NothingToUndo, Request, Session, run_a
 pub use entry::{ObservedProgram, program};
 pub use host_storage::{FolderHost, Host, HostFault, MemoryHost};
 pub use program_arguments::{Job, JobFault, Subcommand, job};
-pub use program_console::Console;
-pub use program_exit::ProgramFault;
+pub use program_console::{Console, ProgramFault};
 pub use script_run::{Observer, Outcome, ShellFault, laws, run};

@@ -1,2 +1,4 @@
 pub mod Console
+pub mod Faults
+pub mod NoJob
 pub mod Outside

@@ -1,4 +1,3 @@
 pub mod SurveyRuns
-mod ComparisonRuns
-pub mod MergeRuns
 mod RunEnds
+pub mod Quiet

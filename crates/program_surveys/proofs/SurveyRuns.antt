@@ -14,8 +14,8 @@ use Rattle.program_batch.specs.declared.report.Verdict.{Verdict}
 use Rattle.program_batch.specs.declared.report.Verdict.TheVariants.{Clean}
 use Rattle.program_surveys.specs.JobEnds.{EndedSurvey, first_state}
 use Rattle.program_console.specs.Outside.{Outside}
-use Rattle.program_exit.specs.Faults.{Reports}
-use Rattle.program_exit.specs.declared.program_fault.ProgramFault.TheVariants.{Memory}
+use Rattle.program_console.specs.Faults.{Reports}
+use Rattle.program_console.specs.declared.program_fault.ProgramFault.TheVariants.{Memory}
 use Rattle.program_surveys.specs.SurveyFiles.{SurveyFiles, files_in}
 use Rattle.program_surveys.specs.Surveys.{RunsListFile, RunsOver, Surveys, is_input}
 use Rattle.program_surveys.specs.declared.file_names.FileNames.{FileNames}

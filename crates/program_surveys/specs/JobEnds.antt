@@ -1,4 +1,4 @@
--- How the end of a survey or of a comparison is reported.
+-- How the end of a survey, or of a task over all files at once, is reported.
 use Rattle.std.specs.Prelude.{◌≡◌, ℕ, List, Option, None, MatchBool, Result, Ok, Err, ◌⊎◌}
 use Rattle.host_storage.specs.Files.{Files}
 use Rattle.host_storage.specs.declared.host.HostFault.TheVariants.{Device}
@@ -14,10 +14,9 @@ use Rattle.program_batch.specs.declared.report.Verdict.{Verdict}
 use Rattle.program_batch.specs.declared.report.Verdict.TheVariants.{Clean}
 use Rattle.program_surveys.specs.SurveyFiles.{SurveyFiles, list_name}
 use Rattle.program_surveys.specs.Surveys.{Surveys, is_input}
-use Rattle.program_surveys.specs.Comparisons.{PairRule, Compares}
-use Rattle.program_exit.specs.declared.program_fault.ProgramFault.TheVariants.{Write, Memory}
+use Rattle.program_console.specs.declared.program_fault.ProgramFault.TheVariants.{Write, Memory}
 use Rattle.program_console.specs.Outside.{Outside}
-use Rattle.program_exit.specs.Faults.{Reports, fault_of_stream}
+use Rattle.program_console.specs.Faults.{Reports, fault_of_stream}
 
 -- why a list cannot be read, as far as a host with these files can say: no reason for the standard
 -- input, and otherwise what is at the list's path
@@ -67,7 +66,3 @@ pub record EndedRun (Runs : RunState → RunState → Result (Unit {0}) StreamFa
   pub host : new.host ≡ last.host
   pub output : new.output ≡ last.reported.output
   pub reports : ReportsRun ended last.reported.worst last.reported.error new.error status
-
--- a comparison has ended, which read nothing of the input
-abbrev pub EndedComparison : PairRule → List ℕ → List ℕ → Outside → Outside → ℕ → Type 0
-EndedComparison rule old_name new_name old new status = EndedRun (Compares rule old_name new_name) old new status

@@ -1,5 +1,4 @@
 pub mod SurveyFiles
 pub mod Surveys
-pub mod Comparisons
 pub mod JobEnds
-pub mod Merges
+pub mod Printings

@@ -1,19 +1,18 @@
-//! Running `check`, `files`, `extract`, `map` and `catalogue` over the files of the arguments or of
-//! a list, `diff` over two, and `merge` over several, each to its exit status.
-//!
-//! A crate apart from `d64_shell` for the gate's time: `d64_shell` needs every library; what is
-//! here needs few, so it is proved, and its wrong bodies are tried, beside the crates of the other
-//! subcommands.
+//! A survey of disks: each file that the arguments or a list name is read as a dump, a `Printer`
+//! prints what a subcommand shows of it, and the worst verdict is the exit status; and tasks that
+//! are done once for all of their files, as `diff` and `merge` are.
 #![tactic(auto)]
 
-mod difference_job;
+mod dump_buffer;
 mod file_names;
-mod merge_job;
+mod printer;
 mod survey_job;
+mod survey_report;
 mod whole_task;
 
-pub use difference_job::DifferenceJob;
+pub use dump_buffer::DumpBuffer;
 pub use file_names::FileNames;
-pub use merge_job::MergeJob;
+pub use printer::Printer;
 pub use survey_job::SurveyJob;
+pub use survey_report::SurveyReport;
 pub use whole_task::{WholeTask, run_whole};

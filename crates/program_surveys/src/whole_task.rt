@@ -9,8 +9,7 @@ ghost use Rattle.program_surveys.specs.JobEnds.{EndedRun};
 
 use host_storage::Host;
 use program_batch::Batch;
-use program_console::{Console, Outputs, StreamFault};
-use program_exit::ProgramFault;
+use program_console::{Console, Outputs, ProgramFault, StreamFault};
 use std::alloc::Global;
 use std::io::{Read, Write};
 

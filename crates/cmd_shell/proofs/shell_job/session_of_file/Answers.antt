@@ -5,7 +5,7 @@ use Rattle.d64_undo.specs.FromReader.{IsReadFault}
 use Rattle.d64_undo.specs.SessionFile.{file_of}
 use Rattle.d64_undo.specs.declared.from_reader.SessionReadFault.{SessionReadFault}
 use Rattle.cmd_shell.specs.ShellRuns.{GivesNoSession, session_limit}
-use Rattle.program_exit.specs.declared.program_fault.ProgramFault.{ProgramFault}
+use Rattle.program_console.specs.declared.program_fault.ProgramFault.{ProgramFault}
 use Rattle.cmd_shell.proofs.SessionFiles.{fetches_failed, fetches_none, fetches_read, fetches_too_long, gives_none}
 use Rattle.cmd_shell.proofs.shell_job.session_of_file.Goals as goal
 
@@ -51,7 +51,7 @@ returns-in-Err-Resume-clause-none g c =
         counted = opened.counted;
         kept = opened.files_kept;
       },
-      subst (λ (reported : ProgramFault). GivesNoSession (Ok read.0) reported) (sym c.into.ensures) (gives_none c.in-Err-Resume.fault read.0 read.4),
+      subst (λ (reported : ProgramFault). GivesNoSession (Ok read.0) reported) (sym c.fault_of_resume.ensures) (gives_none c.in-Err-Resume.fault read.0 read.4),
     )
 
 -- there is more than may be read

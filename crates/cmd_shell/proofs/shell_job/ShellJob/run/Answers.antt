@@ -1,18 +1,17 @@
 -- The script has run from its beginning, and a flush of the output changes none of its bytes.
-use Rattle.std.proofs.Common.{◌≡◌, Ok, Err, inl, inr, refl, ap, option_copied, rules}
+use Rattle.std.proofs.Common.{◌≡◌, ◌∙◌, Ok, Err, inl, inr, refl, sym, ap, subst, option_copied, rules}
 use Rattle.cmd_shell.specs.Beginnings.{source_by}
 use Rattle.script_text.specs.Input.{reading_of}
 use Rattle.program_console.specs.Outside.{Outside, account_at, outside_at, outside_of}
 use Rattle.cmd_shell.specs.ShellRuns.{StoppedBy}
-use Rattle.program_exit.specs.Faults.{fault_of_run}
 use Rattle.cmd_shell.specs.Scripts.{beginning_in, options_in, source_in}
-use Rattle.program_exit.proofs.Results.{IfErr-of_error}
+use Rattle.program_console.specs.declared.program_fault.ProgramFault.{ProgramFault}
 use Rattle.cmd_shell.proofs.ShellRuns.{RanShell-flushed, reported_of-write}
 use Rattle.cmd_shell.proofs.shell_job.ShellJob.run.Goals as goal
 
 -- to its end
-pub returns-in-Ok-clause-ran : goal.returns-in-Ok-clause-ran
-returns-in-Ok-clause-ran g c =
+pub returns-in-Ok-ran-clause-ran : goal.returns-in-Ok-ran-clause-ran
+returns-in-Ok-ran-clause-ran g c =
     let job = c.args.self in
     let options : record { home = option_copied c.home.result; refusals = job.refusals } ≡ options_in job =
     ap (λ h. record { home = h; refusals = job.refusals }) c.home.ensures in
@@ -21,16 +20,16 @@ returns-in-Ok-clause-ran g c =
     let ran_on = c.run-ran.new.console in
     let new : Outside = outside_of (g.R.Read.remaining ran_on.input.reader.now) (reading_of ran_on.input.reads ran_on.input.came ran_on.input.has_failed)
     (account_at g.W.Write.contents c.flush.new.self) (account_at g.F.Write.contents ran_on.outputs.faults) (g.H.Host.state c.run-ran.new.host) in
-    let is : c.run-ran.result ≡ Ok c.in_ok-ran-in-Ok.field-0 = search rules in
-    RanShell-flushed old new (Ok c.in_ok-ran-in-Ok.field-0) (beginning_in job) (source_in job) (source_by (option_copied c.as_deref.result))
+    let is : c.run-ran.result ≡ Ok c.in-Ok-ran.outcome = search rules in
+    RanShell-flushed old new (Ok c.in-Ok-ran.outcome) (beginning_in job) (source_in job) (source_by (option_copied c.as_deref.result))
     (options_in job) (record { home = option_copied c.home.result; refusals = job.refusals })
     (g.H.Host.state c.first_session.new.host)
     c.in_ok-session.session c.run-ran.new.session (g.W.Write.contents c.run-ran.new.console.outputs.output.writer.now)
     c.in_ok-session.ensures.session source options (rw is at c.run-ran.ensures.ran) c.flush.ensures.kept
 
 -- up to a fault
-pub returns-in_err-ran-in-Ok-clause-stopped : goal.returns-in_err-ran-in-Ok-clause-stopped
-returns-in_err-ran-in-Ok-clause-stopped g c =
+pub returns-in-Ok-clause-stopped : goal.returns-in-Ok-clause-stopped
+returns-in-Ok-clause-stopped g c =
     let job = c.args.self in
     let options : record { home = option_copied c.home.result; refusals = job.refusals } ≡ options_in job =
     ap (λ h. record { home = h; refusals = job.refusals }) c.home.ensures in
@@ -39,15 +38,14 @@ returns-in_err-ran-in-Ok-clause-stopped g c =
     let ran_on = c.run-ran.new.console in
     let new : Outside = outside_of (g.R.Read.remaining ran_on.input.reader.now) (reading_of ran_on.input.reads ran_on.input.came ran_on.input.has_failed)
     (account_at g.W.Write.contents c.flush.new.self) (account_at g.F.Write.contents ran_on.outputs.faults) (g.H.Host.state c.run-ran.new.host) in
-    let is : c.run-ran.result ≡ Err c.in_err-ran-in-Ok.field-0.0 = search rules in
-    let ran = RanShell-flushed old new (Err c.in_err-ran-in-Ok.field-0.0) (beginning_in job) (source_in job) (source_by (option_copied c.as_deref.result))
+    let is : c.run-ran.result ≡ Err c.in-Err-ran.fault = search rules in
+    let ran = RanShell-flushed old new (Err c.in-Err-ran.fault) (beginning_in job) (source_in job) (source_by (option_copied c.as_deref.result))
     (options_in job) (record { home = option_copied c.home.result; refusals = job.refusals })
     (g.H.Host.state c.first_session.new.host)
     c.in_ok-session.session c.run-ran.new.session (g.W.Write.contents c.run-ran.new.console.outputs.output.writer.now)
     c.in_ok-session.ensures.session source options (rw is at c.run-ran.ensures.ran) c.flush.ensures.kept in
-    IfErr-of_error c.from_residual-in_err-ran-in-Ok.result (fault_of_run c.in_err-ran-in-Ok.field-0.0)
-    (λ fault. StoppedBy fault (beginning_in job) (source_in job) (options_in job) old new)
-    c.from_residual-in_err-ran-in-Ok.ensures.1 (inr (inr (Err c.in_err-ran-in-Ok.field-0.0, ran, inl refl)))
+    subst (λ (fault : ProgramFault). StoppedBy fault (beginning_in job) (source_in job) (options_in job) old new)
+    (sym c.fault_of_run.ensures) (inr (inr (Err c.in-Err-ran.fault, ran, inl refl)))
 
 -- and the flush failed
 pub returns-clause-stopped : goal.returns-clause-stopped

@@ -1,0 +1,55 @@
+-- How a merge of files ends.
+use Rattle.std.specs.Prelude.{◌≡◌, ◌⊎◌, ℕ, Bool, List, [], ◌∷◌, MatchBool, Result, Ok, Err}
+use Rattle.host_storage.specs.Files.{HostState}
+use Rattle.host_storage.specs.Folders.{Looks}
+use Rattle.host_storage.specs.declared.host.FolderFault.{FolderFault}
+use Rattle.program_batch.specs.Answers.{Answer}
+use Rattle.program_batch.specs.Runs.{IsCut, IsReported, RunState}
+use Rattle.program_arguments.specs.declared.jobs.DiffForm.{DiffForm}
+use Rattle.cmd_diff.specs.Differences.{Contents}
+use Rattle.cmd_merge.specs.Setup.{MergeSetupView}
+use Rattle.cmd_merge.specs.Reports.{ReadingsView, no_readings, with_read_file, file_present_answer}
+use Rattle.cmd_merge.specs.Finishing.{Finishes, IsFileMade}
+use Rattle.cmd_diff.specs.Comparisons.{IsReadAs}
+use Rattle.program_surveys.specs.JobEnds.{EndedRun}
+use Rattle.program_console.specs.declared.stream_fault.StreamFault.{StreamFault}
+use Rattle.program_console.specs.declared.stream_fault.StreamFault.TheVariants.{Read, Write, Memory}
+use Rattle.program_console.specs.Outside.{Outside}
+
+-- the files of these names were read, one after another, each added to what was read before
+unfoldable pub ReadsFiles : DiffForm → List (List ℕ) → HostState → ReadingsView → HostState → ReadingsView → Type 0
+ReadsFiles form [] old begun new read = (new ≡ old) × (read ≡ begun)
+ReadsFiles form (name ∷ names) old begun new read =
+    (contents : Contents) × (middle : HostState) × IsReadAs name old contents middle × ReadsFiles form names middle (with_read_file form name contents begun) new read
+
+-- all files were read, and the merge ended with this result
+pub record MergesRead (setup : MergeSetupView) (old : HostState) (answer : Answer) (new : HostState) : Type 0 where
+  pub middle : HostState
+  pub readings : ReadingsView
+  pub read : ReadsFiles setup.form setup.names old no_readings middle readings
+  pub finished : Finishes setup readings middle answer new
+
+-- the file that is to be made was looked for: it was there, and nothing else was done; or it was
+-- not there, and the files were merged
+abbrev pub AnswersMerge : MergeSetupView → HostState → Answer → HostState → Type 0
+AnswersMerge setup old answer new =
+    (there : Bool) × Looks old.files setup.out there × MatchBool there ((new ≡ old) × (answer ≡ file_present_answer setup)) (MergesRead setup old answer new)
+
+-- how far a merge came if memory ran out: no file was changed, except that the one to be made may
+-- have been made, whole
+abbrev pub CameSoFar : MergeSetupView → HostState → HostState → Type 0
+CameSoFar setup old new =
+    (middle : HostState) × (middle.files ≡ old.files)
+    × ((new ≡ middle) ⊎ ((bytes : List ℕ) × (result : Result (Unit {0}) FolderFault) × IsFileMade setup.out bytes middle result new))
+
+-- how a merge ends: its result was written, or the output failed while it was written, or memory
+-- ran out and nothing was written
+abbrev pub Merges : {A : Type 0} → MergeSetupView → RunState → RunState → Result A StreamFault → Type 0
+Merges setup first last (Ok done) = (answer : Answer) × AnswersMerge setup first.host answer last.host × IsReported answer first.reported last.reported
+Merges setup first last (Err Read) = ⊥
+Merges setup first last (Err Write) = (answer : Answer) × AnswersMerge setup first.host answer last.host × IsCut answer first.reported last.reported
+Merges setup first last (Err Memory) = CameSoFar setup first.host last.host × (last.reported ≡ first.reported)
+
+-- a merge has ended, which read nothing of the input
+abbrev pub EndedMerge : MergeSetupView → Outside → Outside → ℕ → Type 0
+EndedMerge setup old new status = EndedRun (Merges setup) old new status
