@@ -6,7 +6,10 @@ use crate::hosts::{self, host};
 use crate::sessions::Beside;
 use crate::texts::{START, TEXT};
 use cbm_text::{BasicFault, ListFault};
-use d64_shell::{JobFault, Outcome, ProgramFault, ShellFault, ToolFault};
+use cmd_basic::ToolFault;
+use program_arguments::JobFault;
+use program_console::ProgramFault;
+use script_run::{Outcome, ShellFault};
 use std::alloc::{AllocError, Global};
 use std::test::Fail;
 
@@ -23,7 +26,7 @@ pub fn run(bench: &Bench, line: &str) -> Result<End, Fail> {
     let mut written = Vec::with_capacity(bench.alloc(), ROOM)?;
     let mut script = line.as_bytes();
     bench.begin()?;
-    let answer = d64_shell::run(
+    let answer = script_run::run(
         bench.alloc(),
         &mut script,
         &mut written,
@@ -60,7 +63,7 @@ pub fn petcat_run(bench: &Bench) -> Result<End, Fail> {
     let mut written = Vec::with_capacity(bench.alloc(), ROOM)?;
     let mut input = PROGRAM.as_slice();
     bench.begin()?;
-    let answer = d64_shell::petcat_run(bench.alloc(), &mut input, &mut written);
+    let answer = cmd_basic::petcat_run(bench.alloc(), &mut input, &mut written);
     Ok(end_of_tool(answer, written.as_slice()))
 }
 
@@ -68,7 +71,7 @@ pub fn crunch_run(bench: &Bench) -> Result<End, Fail> {
     let mut written = Vec::with_capacity(bench.alloc(), ROOM)?;
     let mut input = TEXT.as_slice();
     bench.begin()?;
-    let answer = d64_shell::crunch_run(bench.alloc(), START, &mut input, &mut written);
+    let answer = cmd_basic::crunch_run(bench.alloc(), START, &mut input, &mut written);
     Ok(end_of_tool(answer, written.as_slice()))
 }
 
