@@ -182,7 +182,7 @@ fn known_command(command: &Command)
 {
     match command {
         Command::Format { name, id } => {
-            let _ = name.bytes();
+            name.known_name();
             known_bytes(id);
         }
         Command::Write {
@@ -190,18 +190,18 @@ fn known_command(command: &Command)
             kind: _,
             bytes,
         } => {
-            let _ = name.bytes();
+            name.known_name();
             known_bytes(bytes);
         }
         Command::Undelete { name, kind: _ } => {
-            let _ = name.bytes();
+            name.known_name();
         }
         Command::Rename { old, new } => {
-            let _ = old.bytes();
-            let _ = new.bytes();
+            old.known_name();
+            new.known_name();
         }
         Command::Name { name, id } => {
-            let _ = name.bytes();
+            name.known_name();
             known_id(id);
         }
         Command::Delete { patterns: _ } => {}

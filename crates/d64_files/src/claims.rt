@@ -59,7 +59,7 @@ impl Claims {
             Some(start) => start,
             None => return Err(DirFault::NoChain),
         };
-        let _ = image.tracks();
+        image.known_image();
         for _ in 0..BLOCKS {
             self.claim(last);
             match Link::of(image, last) {

@@ -90,7 +90,7 @@ impl<'a> Slots<'a> {
         ensures slots { result ≡ entries image.now (slots_in image.now blocks) }
         ensures len { length result ≤ 8 * BLOCKS }
     {
-        let _ = blocks.as_slice();
+        blocks.known_list();
         Slots {
             image,
             directory: blocks,

@@ -200,7 +200,7 @@ fn linked_last(image: &Image, last: BlockNo, next: BlockNo) -> [u8; BLOCK_BYTES]
     ensures linked { result ≡ written_at (sector_at image.now last) 0 (pair_bytes next) }
     ensures within { last < length image.now }
 {
-    let _ = image.tracks();
+    image.known_image();
     let mut bytes = *image.sector(last);
     write_at(&mut bytes, 0, &[next.track(), next.sector()]);
     bytes

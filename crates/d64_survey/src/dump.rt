@@ -179,7 +179,7 @@ impl Dump {
         ensures value { result.now ≡ self.now.image }
         ensures dump { IsDump self.now }
     {
-        let _ = self.image.bytes();
+        self.image.known_image();
         &self.image
     }
 
@@ -188,7 +188,7 @@ impl Dump {
         ensures codes { option_map (λ codes. codes.now) result ≡ self.now.codes }
         ensures dump { IsDump self.now }
     {
-        let _ = self.image.bytes();
+        self.image.known_image();
         if self.codes.is_empty() {
             None
         } else {

@@ -10,7 +10,7 @@ last_within : (image : List (List ℕ)) (last : ℕ) → IsSize (length image) �
 last_within image last size is = subst (λ (b : ℕ). b < length image) (sym is) (dir_last-within image (let least = size_least (length image) size in omega arith))
 
 pub sector-requires : goal.sector-requires
-sector-requires c = last_within c.args.image.now c.args.last c.tracks.ensures.size c.requires
+sector-requires c = last_within c.args.image.now c.args.last c.known_image.ensures.size c.requires
 
 pub returns-clause-linked : goal.returns-clause-linked
 returns-clause-linked c =
@@ -20,4 +20,4 @@ returns-clause-linked c =
     ∙ ap₂ (λ (track sector : ℕ). written_at last 0 (track ∷ sector ∷ [])) c.track.ensures.pair c.sector-2.ensures.pair
 
 pub returns-clause-within : goal.returns-clause-within
-returns-clause-within c = last_within c.args.image.now c.args.last c.tracks.ensures.size c.requires
+returns-clause-within c = last_within c.args.image.now c.args.last c.known_image.ensures.size c.requires

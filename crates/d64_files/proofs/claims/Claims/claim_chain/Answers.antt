@@ -34,5 +34,5 @@ loop-init c = record {
 
 pub returns-clause-chain : goal.returns-clause-chain
 returns-clause-chain c =
-    let most = size_most _ c.tracks.ensures.size in
+    let most = size_most _ c.known_image.ensures.size in
     (refl, chain_at-endless _ _ _ _ _ _ _ c.in-Some.ensures.block c.loop.invariant.followed (omega arith))
