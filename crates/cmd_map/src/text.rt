@@ -1,5 +1,6 @@
 //! The map of a disk as text.
-ghost use Rattle.std.specs.Prelude.{◌≡◌, ◌<◌, ◌≤◌, ◌++◌, OnOk};
+ghost use Rattle.std.specs.Prelude.{◌≡◌, ◌++◌, OnOk};
+ghost use Rattle.d64_image.specs.Block.{IsTrackNumber};
 ghost use Rattle.cmd_map.specs.MapText.{map_head_line, column_lines, padded_number, track_row, track_line, track_lines, legend_line, map_text as map_text_of};
 
 use crate::block_state::state_of;
@@ -43,7 +44,7 @@ fn push_padded(out: &mut Vec<u8>, track: u8) -> Result<(), AllocError>
 
 /// Appends the characters of a track's blocks.
 fn push_row(out: &mut Vec<u8>, inspection: &Inspection, track: u8) -> Result<(), AllocError>
-    requires { (1 ≤ track) × (track < 41) }
+    requires { IsTrackNumber track }
     ensures { OnOk result (out.new.items ≡ out.old.items ++ track_row inspection.now track) }
 {
     for sector in 0..SECTORS {
@@ -58,7 +59,7 @@ fn push_row(out: &mut Vec<u8>, inspection: &Inspection, track: u8) -> Result<(),
 /// Appends the line of a track.
 #[tactic(auto, unfolding(crate::specs::MapText::track_line))]
 fn push_track(out: &mut Vec<u8>, inspection: &Inspection, track: u8) -> Result<(), AllocError>
-    requires { (1 ≤ track) × (track < 41) }
+    requires { IsTrackNumber track }
     ensures { OnOk result (out.new.items ≡ out.old.items ++ track_line inspection.now track) }
 {
     push_padded(out, track)?;

@@ -7,6 +7,10 @@ abbrev pub sectors_on : ℕ → ℕ
 sectors_on track =
     if nat_lt track 18 then 21 else (if nat_lt track 25 then 19 else (if nat_lt track 31 then 18 else 17))
 
+-- a disk may have the track: tracks count from 1, and there are at most 40
+abbrev pub IsTrackNumber : ℕ → Type 0
+IsTrackNumber track = (1 ≤ track) × (track < 41)
+
 -- the pairs of a track and each of its sectors, counted from 0
 abbrev pub pairs_on : ℕ → List (ℕ × ℕ)
 pairs_on track = map (λ sector. (track, sector)) (range_with_len 0 (sectors_on track))

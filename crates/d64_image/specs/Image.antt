@@ -1,5 +1,5 @@
 -- Images: lists of blocks of 256 bytes, of 35 or of 40 tracks, and how two of them differ.
-use Rattle.std.specs.Prelude.{◌≡◌, ℕ, ◌<◌, ◌==◌, ◌||◌, ◌⊎◌, not, Bool, if◌then◌else◌, Option, Some, None, [], length, filter, All, slice_index_or, slice_set, nat_eq}
+use Rattle.std.specs.Prelude.{◌≡◌, ℕ, ◌<◌, ◌≤◌, ◌==◌, ◌||◌, ◌⊎◌, not, Bool, if◌then◌else◌, Option, Some, None, [], length, filter, All, slice_index_or, slice_set, nat_eq}
 use Rattle.std.specs.List.{flat_map, range_with_len}
 use Rattle.std.specs.Cmp.Lexicographic.{pointwise}
 use Rattle.d64_image.specs.Disk.{Disk, Bytes, Blocks}
@@ -16,6 +16,10 @@ IsSize count = (count ≡ 683) ⊎ (count ≡ 768)
 -- how many tracks an image of n blocks has
 abbrev pub tracks_of : ℕ → ℕ
 tracks_of count = if count == 768 then 40 else 35
+
+-- the image has the track: tracks count from 1
+abbrev pub HasTrack : Disk → ℕ → Type 0
+HasTrack image track = (1 ≤ track) × (track ≤ tracks_of (length image))
 
 -- how many blocks an image has: those of 40 tracks or those of 35
 abbrev pub count_of_tracks : ℕ → ℕ

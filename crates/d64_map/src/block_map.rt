@@ -2,9 +2,9 @@
 ghost use Rattle.std.specs.Prelude.{◌≡◌, ℕ, ◌+◌, ◌/◌, ◌<◌, ◌≤◌, ◌==◌, ◌↔◌, true, false, length, slice_index, IsTrue, OnOk};
 ghost use Rattle.std.specs.Int.{bit_at};
 ghost use Rattle.std.specs.FinSet as set;
-ghost use Rattle.d64_image.specs.Block.{first_block};
+ghost use Rattle.d64_image.specs.Block.{IsTrackNumber, first_block};
 ghost use Rattle.d64_image.specs.BlockSet.{MembersAreBelow};
-ghost use Rattle.d64_image.specs.Image.{IsBlock, IsSize, tracks_of, sector_at};
+ghost use Rattle.d64_image.specs.Image.{HasTrack, IsBlock, IsSize, sector_at};
 ghost use Rattle.d64_image.specs.Patch.{StillRestores};
 ghost use Rattle.d64_map.specs.Track.{members_on};
 ghost use Rattle.d64_map.specs.Map.{map_block, map_entry_place, IsOfTrack, count_of, bit_in, is_free, free_below, free_blocks, NoneIsFreeBetween, blocks_free, CountsFit, map_byte, with_map};
@@ -80,7 +80,7 @@ pub fn is_free(image: &Image, block: BlockNo) -> bool
 /// The count byte of a track of the image, which counts from 1: how many of its sectors are free,
 /// as the map says.
 pub fn free_count(image: &Image, track: u8) -> u8
-    requires track { (1 ≤ track) × (track ≤ tracks_of (length image.now)) }
+    requires track { HasTrack image.now track }
     ensures count { result ≡ count_of image.now track }
 {
     map_of(image)[entry_of(track)]
@@ -101,7 +101,7 @@ pub fn blocks_free(image: &Image) -> u32
 
 /// Adds the free blocks of a track to those of the tracks before it.
 fn add_free_on(free: &mut BlockSet, image: &Image, track: u8)
-    requires track { (1 ≤ track) × (track < 41) }
+    requires track { IsTrackNumber track }
     requires before { free.old ≡ free_below image.now (first_block track) }
     ensures added { free.new ≡ free_below image.now (first_block (track + 1)) }
 {
@@ -122,7 +122,7 @@ pub fn free_set(image: &Image) -> BlockSet
 
 /// Whether the map marks no member among a track's blocks free.
 fn none_is_free_on(image: &Image, blocks: &BlockSet, track: u8) -> bool
-    requires track { (1 ≤ track) × (track ≤ tracks_of (length image.now)) }
+    requires track { HasTrack image.now track }
     ensures none { IsTrue result ↔ NoneIsFreeBetween image.now blocks.now (first_block track) (first_block (track + 1)) }
 {
     image.known_image();
@@ -144,7 +144,7 @@ pub fn none_is_free(image: &Image, blocks: &BlockSet) -> bool
 
 /// How many blocks of a track, which counts from 1, the map marks free.
 pub fn free_on(image: &Image, track: u8) -> u8
-    requires track { (1 ≤ track) × (track ≤ tracks_of (length image.now)) }
+    requires track { HasTrack image.now track }
     ensures free { result ≡ members_on (free_blocks image.now) track }
 {
     image.known_image();
@@ -166,7 +166,7 @@ pub fn counts_fit(image: &Image) -> bool
 
 /// Writes a track's entry into the map's block: the count of the free blocks, and their bits.
 fn put_entry(map: &mut [u8; BLOCK_BYTES], free: &BlockSet, track: u8)
-    requires track { (1 ≤ track) × (track < 41) }
+    requires track { IsTrackNumber track }
     ensures entry { (place : ℕ) → IsOfTrack track place → slice_index map.new place ≡ map_byte free.now place }
     ensures others { (place : ℕ) → (IsOfTrack track place → ⊥) → slice_index map.new place ≡ slice_index map.old place }
 {

@@ -2,7 +2,7 @@
 ghost use Rattle.std.specs.Prelude.{◌≡◌, ◌+◌, ◌-◌, ◌<◌, ◌≤◌, ◌==◌, ◌&&◌, ◌++◌, find};
 ghost use Rattle.std.specs.List.{range_with_len, flat_map};
 ghost use Rattle.std.specs.FinSet as set;
-ghost use Rattle.d64_image.specs.Block.{sectors_on, first_block};
+ghost use Rattle.d64_image.specs.Block.{IsTrackNumber, sectors_on, first_block};
 ghost use Rattle.d64_map.specs.Track.{blocks_on};
 ghost use Rattle.d64_map.specs.Search.{first_order, sector_after, rotated_list, next_order, dir_order};
 ghost use Rattle.d64_map.specs.Side.{track_at, other_side, reach, tracks_along, tracks_beyond};
@@ -34,7 +34,7 @@ enum Side {
 impl Side {
     /// The side of a track other than 18, and the track's distance from 18.
     fn of(track: u8) -> (Side, u8)
-        requires range { (1 ≤ track) × (track < 41) }
+        requires range { IsTrackNumber track }
         requires side { track ≡ 18 → ⊥ }
         ensures track { track_at result.0 result.1 ≡ track }
         ensures distance { (1 ≤ result.1) × (result.1 ≤ reach result.0) }
@@ -71,7 +71,7 @@ impl Side {
     fn track(self, distance: u8) -> u8
         requires { (1 ≤ distance) × (distance ≤ reach self) }
         ensures at { result ≡ track_at self distance }
-        ensures range { (1 ≤ result) × (result < 41) }
+        ensures range { IsTrackNumber result }
     {
         match self {
             Side::Lower => DIRECTORY_TRACK - distance,
@@ -82,7 +82,7 @@ impl Side {
 
 /// The first free block of a track from one sector up to another.
 fn pick_between(free: &BlockSet, track: u8, start: u8, end: u8) -> Option<BlockNo>
-    requires track { (1 ≤ track) × (track < 41) }
+    requires track { IsTrackNumber track }
     requires end { end ≤ sectors_on track }
     ensures { result ≡ find (set.contains free.now) (range_with_len (first_block track + start) (end - start)) }
 {
@@ -102,7 +102,7 @@ fn pick_between(free: &BlockSet, track: u8, start: u8, end: u8) -> Option<BlockN
 
 /// The first free block of a track.
 fn pick_on(free: &BlockSet, track: u8) -> Option<BlockNo>
-    requires { (1 ≤ track) × (track < 41) }
+    requires { IsTrackNumber track }
     ensures { result ≡ find (set.contains free.now) (blocks_on track) }
 {
     if member_bits(free, track) == 0 {
@@ -113,7 +113,7 @@ fn pick_on(free: &BlockSet, track: u8) -> Option<BlockNo>
 
 /// The first free block of a track from a sector on, and then from the track's beginning.
 fn pick_around(free: &BlockSet, track: u8, start: u8) -> Option<BlockNo>
-    requires track { (1 ≤ track) × (track < 41) }
+    requires track { IsTrackNumber track }
     requires start { start ≤ sectors_on track }
     ensures { result ≡ find (set.contains free.now) (rotated_list start (blocks_on track)) }
 {

@@ -1,7 +1,7 @@
 //! Tracks and their blocks.
 ghost use Rattle.std.specs.Prelude.{◌≡◌, ℕ, ◌-◌, ◌^◌, ◌<◌, ◌≤◌, if◌then◌else◌, sum_by};
 ghost use Rattle.std.specs.List.{range_with_len};
-ghost use Rattle.d64_image.specs.Block.{sectors_on, first_block};
+ghost use Rattle.d64_image.specs.Block.{IsTrackNumber, sectors_on, first_block};
 ghost use Rattle.d64_image.specs.declared.block.TheConstants.{BLOCKS};
 ghost use Rattle.d64_map.specs.Track.{has_sector};
 
@@ -32,7 +32,7 @@ pub fn sector_mask(track: u8) -> u32
 
 /// The number of a track's first block.
 pub fn first_block(track: u8) -> usize
-    requires track { (1 ≤ track) × (track < 41) }
+    requires track { IsTrackNumber track }
     ensures first { result ≡ first_block track }
     ensures within { result < BLOCKS }
 {
@@ -45,7 +45,7 @@ pub fn first_block(track: u8) -> usize
 /// The bits of a track's sectors: bit s is 1 if the block of sector s is a member. Bits past the
 /// last sector are 0.
 pub fn member_bits(blocks: &BlockSet, track: u8) -> u32
-    requires track { (1 ≤ track) × (track < 41) }
+    requires track { IsTrackNumber track }
     ensures bits { (count : ℕ) → sectors_on track ≤ count → result ≡ sum_by (λ s. if has_sector blocks.now track s then 2 ^ s else 0) (range_with_len 0 count) }
 {
     blocks.bits_from(first_block(track)) & sector_mask(track)
