@@ -3,10 +3,10 @@ use Rattle.std.proofs.Common.{◌≡◌, ◌∙◌, ℕ, List, Result, Err, inr,
 use Rattle.host_storage.specs.Files.{HostState}
 use Rattle.program_batch.specs.Answers.{Answer}
 use Rattle.program_batch.specs.Runs.{IsCut, IsReported, Reported, run_state}
-use Rattle.cmd_diff.specs.Differences.{Contents}
-use Rattle.cmd_diff.specs.Comparisons.{AreCompared, Compares, IsReadAs, PairRule}
+use Rattle.cmd_diff.specs.Comparisons.{AreCompared, Compares, PairRule}
 use Rattle.program_console.specs.declared.stream_fault.StreamFault.{StreamFault}
 use Rattle.program_console.specs.declared.stream_fault.StreamFault.TheVariants.{Memory, Write}
+use Rattle.program_surveys.specs.FileContents.{Contents, IsReadAs}
 
 -- a rule says the same of the same names and bytes
 pub same_answer : (rule : PairRule) (said : Answer) (old_name old_name' : List ℕ) (old old' : Contents) (new_name new_name' : List ℕ) (new new' : Contents)

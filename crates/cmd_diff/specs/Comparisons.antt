@@ -1,24 +1,18 @@
 -- How a comparison of two files ends.
-use Rattle.std.specs.Prelude.{◌≡◌, ℕ, List, None, Result, Ok, Err, ◌⊎◌}
+use Rattle.std.specs.Prelude.{◌≡◌, ℕ, List, Result, Ok, Err, ◌⊎◌}
 use Rattle.host_storage.specs.Files.{HostState}
-use Rattle.program_batch.specs.Names.{File}
 use Rattle.program_batch.specs.Answers.{Answer}
-use Rattle.program_batch.specs.Runs.{IsCut, IsFetched, IsReported, SaysWhy, RunState}
-use Rattle.cmd_diff.specs.Differences.{Contents}
+use Rattle.program_batch.specs.Runs.{IsCut, IsReported, RunState}
 use Rattle.program_surveys.specs.JobEnds.{EndedRun}
 use Rattle.program_console.specs.Outside.{Outside}
 use Rattle.program_console.specs.declared.stream_fault.StreamFault.{StreamFault}
 use Rattle.program_console.specs.declared.stream_fault.StreamFault.TheVariants.{Read, Write, Memory}
+use Rattle.program_surveys.specs.FileContents.{Contents, IsReadAs}
 
 -- the result for an old file and a new one, by the name of each, and its bytes, or why it cannot be
 -- read
 abbrev pub PairRule : Type 0
 PairRule = List ℕ → Contents → List ℕ → Contents → Answer
-
--- this was read of a file: its bytes, or why it cannot be read, as far as the host can say
-abbrev pub IsReadAs : List ℕ → HostState → Contents → HostState → Type 0
-IsReadAs name old (Ok bytes) new = IsFetched name old (Ok bytes) new
-IsReadAs name old (Err reason) new = SaysWhy (File name) old None new reason
 
 -- both files were read, the old one first
 pub record AreRead (old_name new_name : List ℕ) (first : HostState) (old new : Contents) (last : HostState) : Type 0 where

@@ -1,5 +1,5 @@
 -- What is printed of two dumps.
-use Rattle.std.specs.Prelude.{ℕ, ◌==◌, ◌&&◌, Bool, nat_eq, List, [], ◌∷◌, ◌++◌, length, Option, Some, None, Result, Ok, Err, is_some, if◌then◌else◌, codes}
+use Rattle.std.specs.Prelude.{ℕ, ◌==◌, ◌&&◌, Bool, nat_eq, List, [], ◌∷◌, ◌++◌, length, Option, Some, None, Ok, Err, if◌then◌else◌, codes}
 use Rattle.std.specs.List.{flat_map}
 use Rattle.std.specs.Cmp.Lexicographic.{pointwise}
 use Rattle.d64_image.specs.Disk.{Bytes, Blocks}
@@ -7,26 +7,14 @@ use Rattle.d64_image.specs.Image.{bytes_of}
 use Rattle.d64_survey.specs.Dump.{DumpView, code_bytes}
 use Rattle.out_json_csv.specs.Values.{line_of}
 use Rattle.d64_g64.specs.DumpOf.{dump_of}
-use Rattle.out_json_csv.specs.Unanswered.{unread_object, no_dump_object}
-use Rattle.out_messages.specs.FaultLines.{unread_line, wrong_length_line}
 use Rattle.program_batch.specs.Answers.{Answer}
-use Rattle.program_batch.specs.Reasons.{with_known_reason}
-use Rattle.program_batch.specs.declared.reason.Reason.{Reason}
 use Rattle.program_batch.specs.declared.report.Verdict.TheVariants.{Clean, Amiss, Failed}
 use Rattle.program_arguments.specs.declared.jobs.DiffForm.{DiffForm}
 use Rattle.program_arguments.specs.declared.jobs.DiffForm.TheVariants.{Text, Json}
 use Rattle.cmd_diff.specs.Changes.{DumpChange, changes}
 use Rattle.cmd_diff.specs.ChangeObject.{blocks_object, change_object}
 use Rattle.cmd_diff.specs.ChangeText.{blocks_line, change_lines, heading}
-
--- what is read of a file: its bytes, or why it cannot be read, if that is known
-abbrev pub Contents : Type 0
-Contents = Result Bytes (Option Reason)
-
--- what is read of a file, by the bytes of the value that holds them
-abbrev pub contents_by : {B : Type 0} → (B → Bytes) → Result B (Option Reason) → Contents
-contents_by bytes_of (Ok bytes) = Ok (bytes_of bytes)
-contents_by bytes_of (Err reason) = Err reason
+use Rattle.program_surveys.specs.FileContents.{Contents, contents_fault_line, printed_contents_fault}
 
 -- what is printed of a change
 abbrev pub printed_change : DiffForm → DumpChange → List ℕ
@@ -58,22 +46,10 @@ abbrev pub printed_difference : DiffForm → Bytes → Bytes → DumpView → Du
 printed_difference Text old_name new_name old new = under_names old_name new_name (printed_changes Text (changes old new))
 printed_difference Json old_name new_name old new = printed_changes Json (changes old new)
 
--- the line on standard error of a file that is not compared: it cannot be read, with the reason, or
--- it is not a dump
-abbrev pub uncompared_line : Bytes → Contents → List ℕ
-uncompared_line name (Err reason) = with_known_reason reason (unread_line name)
-uncompared_line name (Ok bytes) = if is_some (dump_of bytes) then [] else wrong_length_line name bytes
-
--- what is printed of such a file
-abbrev pub printed_fault : DiffForm → Bytes → Contents → List ℕ
-printed_fault Text name contents = []
-printed_fault Json name (Err reason) = line_of (unread_object name)
-printed_fault Json name (Ok bytes) = if is_some (dump_of bytes) then [] else line_of (no_dump_object name bytes)
-
 -- the result if one of two files, or both, cannot be compared
 abbrev pub unanswered_pair : DiffForm → Bytes → Contents → Bytes → Contents → Answer
 unanswered_pair form old_name old new_name new =
-    record { printed = printed_fault form old_name old ++ printed_fault form new_name new; complaint = uncompared_line old_name old ++ uncompared_line new_name new; verdict = Failed }
+    record { printed = printed_contents_fault form old_name old ++ printed_contents_fault form new_name new; complaint = contents_fault_line old_name old ++ contents_fault_line new_name new; verdict = Failed }
 
 -- the result for two dumps that differ in a byte
 abbrev pub amiss_with : List ℕ → Answer

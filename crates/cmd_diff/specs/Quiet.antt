@@ -5,7 +5,8 @@ use Rattle.d64_survey.specs.Dump.{DumpView}
 use Rattle.program_batch.specs.declared.report.Verdict.TheVariants.{Clean}
 use Rattle.d64_g64.specs.DumpOf.{dump_of}
 use Rattle.program_arguments.specs.declared.jobs.DiffForm.{DiffForm}
-use Rattle.cmd_diff.specs.Differences.{are_same, Contents, silence, amiss_with, difference_by, difference_rule}
+use Rattle.cmd_diff.specs.Differences.{are_same, silence, amiss_with, difference_by, difference_rule}
+use Rattle.program_surveys.specs.FileContents.{Contents}
 
 -- neither result has a complaint
 either-is_quiet : (equal : Bool) (printed : List ℕ) → (if equal then silence else amiss_with printed).complaint ≡ []

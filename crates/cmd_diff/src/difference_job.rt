@@ -1,15 +1,15 @@
 //! The run of `diff`: the comparison of two files.
-ghost use Rattle.std.specs.Prelude.{◌≡◌, IfErr, IfOk};
-ghost use Rattle.cmd_diff.specs.Differences.{contents_by, difference_rule};
-ghost use Rattle.cmd_diff.specs.Comparisons.{Compares, IsReadAs};
+ghost use Rattle.std.specs.Prelude.{◌≡◌};
+ghost use Rattle.cmd_diff.specs.Differences.{difference_rule};
+ghost use Rattle.cmd_diff.specs.Comparisons.{Compares};
+ghost use Rattle.program_surveys.specs.FileContents.{contents_by};
 
 use crate::difference_report::DifferenceReport;
-use host_storage::{Host, HostFault};
+use host_storage::Host;
 use program_arguments::DiffForm;
-use program_batch::{Batch, Reason, reason_of};
+use program_batch::{Batch, Reason};
 use program_console::{Outputs, StreamFault};
-use program_surveys::WholeTask;
-use script_text::input::INPUT_BYTES;
+use program_surveys::{WholeTask, read_contents};
 use std::alloc::Global;
 use std::io::Write;
 
@@ -61,24 +61,6 @@ impl<'n> WholeTask for DifferenceJob<'n> {
         )?;
         batch.report_result(verdict, outputs)?;
         Ok(())
-    }
-}
-
-/// Returns the bytes of a file of the host, or why it cannot be read, as far as the host can say.
-pub fn read_contents<H: Host>(
-    alloc: Global,
-    name: &str,
-    host: &mut H,
-) -> Result<Result<Vec<u8>, Option<Reason>>, StreamFault>
-    ensures read { IfOk result (λ contents. IsReadAs name.now (H.state host.old)
-        (contents_by (λ bytes. bytes.items) contents) (H.state host.new)) }
-    ensures memory { IfErr result (λ fault. (fault ≡ StreamFault.Memory)
-        × (H.state host.new ≡ H.state host.old)) }
-{
-    match host.fetch(alloc, name, INPUT_BYTES) {
-        Ok(bytes) => Ok(Ok(bytes)),
-        Err(HostFault::Memory(_)) => Err(StreamFault::Memory),
-        Err(fault) => Ok(Err(reason_of(host, name, fault))),
     }
 }
 

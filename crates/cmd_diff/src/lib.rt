@@ -15,7 +15,6 @@ mod slots;
 mod unanswered;
 
 pub use blocks::{list_changed_blocks, list_changed_codes};
-pub use difference_job::{DifferenceJob, read_contents};
+pub use difference_job::DifferenceJob;
 pub use difference_report::DifferenceReport;
 pub use laws::{equal_dumps_are_silent, images_are_listed};
-pub use unanswered::{print_fault, push_fault_line};

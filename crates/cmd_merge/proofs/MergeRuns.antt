@@ -4,14 +4,13 @@ use Rattle.std.specs.Prelude.{slice_index_or, IfErr, String, string_bytes}
 use Rattle.std.proofs.lemmas.List.{drop_all}
 use Rattle.host_storage.specs.Files.{HostState}
 use Rattle.program_arguments.specs.declared.jobs.DiffForm.{DiffForm}
-use Rattle.cmd_diff.specs.Differences.{Contents}
 use Rattle.cmd_merge.specs.Setup.{MergeSetupView}
 use Rattle.cmd_merge.specs.Reports.{ReadingsView, with_read_file}
 use Rattle.cmd_merge.specs.Finishing.{MayHaveMade}
-use Rattle.cmd_diff.specs.Comparisons.{IsReadAs}
 use Rattle.cmd_merge.specs.Merges.{ReadsFiles, CameSoFar}
 use Rattle.program_console.specs.declared.stream_fault.StreamFault.TheVariants.{Memory}
 use Rattle.program_console.specs.declared.stream_fault.StreamFault.{StreamFault}
+use Rattle.program_surveys.specs.FileContents.{Contents, IsReadAs}
 
 -- of the files from a place on, one was read, and then the others
 pub files_left : {Z : Type 0} (form : DiffForm) (names : List (String Z)) (place : ℕ) (name : String Z) (contents : Contents) (old middle new : HostState) (begun between read : ReadingsView)

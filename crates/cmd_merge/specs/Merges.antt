@@ -6,15 +6,14 @@ use Rattle.host_storage.specs.declared.host.FolderFault.{FolderFault}
 use Rattle.program_batch.specs.Answers.{Answer}
 use Rattle.program_batch.specs.Runs.{IsCut, IsReported, RunState}
 use Rattle.program_arguments.specs.declared.jobs.DiffForm.{DiffForm}
-use Rattle.cmd_diff.specs.Differences.{Contents}
 use Rattle.cmd_merge.specs.Setup.{MergeSetupView}
 use Rattle.cmd_merge.specs.Reports.{ReadingsView, no_readings, with_read_file, file_present_answer}
 use Rattle.cmd_merge.specs.Finishing.{Finishes, IsFileMade}
-use Rattle.cmd_diff.specs.Comparisons.{IsReadAs}
 use Rattle.program_surveys.specs.JobEnds.{EndedRun}
 use Rattle.program_console.specs.declared.stream_fault.StreamFault.{StreamFault}
 use Rattle.program_console.specs.declared.stream_fault.StreamFault.TheVariants.{Read, Write, Memory}
 use Rattle.program_console.specs.Outside.{Outside}
+use Rattle.program_surveys.specs.FileContents.{Contents, IsReadAs}
 
 -- the files of these names were read, one after another, each added to what was read before
 unfoldable pub ReadsFiles : DiffForm → List (List ℕ) → HostState → ReadingsView → HostState → ReadingsView → Type 0

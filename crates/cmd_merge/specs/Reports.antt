@@ -17,10 +17,10 @@ use Rattle.program_batch.specs.declared.report.Verdict.{Verdict}
 use Rattle.program_batch.specs.declared.report.Verdict.TheVariants.{Clean, Amiss, Failed}
 use Rattle.program_arguments.specs.declared.jobs.DiffForm.{DiffForm}
 use Rattle.program_arguments.specs.declared.jobs.DiffForm.TheVariants.{Text, Json}
-use Rattle.cmd_diff.specs.Differences.{Contents, uncompared_line, printed_fault}
 use Rattle.cmd_merge.specs.Setup.{MergeSetupView}
 use Rattle.cmd_merge.specs.Objects.{choice_lines, summary_object}
 use Rattle.cmd_merge.specs.Lines.{text_report}
+use Rattle.program_surveys.specs.FileContents.{Contents, contents_fault_line, printed_contents_fault}
 
 -- what was read: what is printed and reported of the files that are no dumps or cannot be read, the
 -- bytes of the others, and their dumps
@@ -41,8 +41,8 @@ with_dump bytes dump readings = record readings { files = readings.files ++ byte
 -- one more file is no dump or cannot be read
 abbrev pub with_fault : DiffForm → Bytes → Contents → ReadingsView → ReadingsView
 with_fault form name contents readings = record readings {
-  printed = readings.printed ++ printed_fault form name contents;
-  complaint = readings.complaint ++ uncompared_line name contents;
+  printed = readings.printed ++ printed_contents_fault form name contents;
+  complaint = readings.complaint ++ contents_fault_line name contents;
 }
 
 -- one more file with these bytes: its dump, or None if it is no dump

@@ -7,11 +7,10 @@ ghost use Rattle.cmd_merge.specs.Merges.{AnswersMerge, CameSoFar, Merges, ReadsF
 use crate::finishing::{finish, say_present};
 use crate::readings::Readings;
 use crate::setup::MergeSetup;
-use cmd_diff::read_contents;
 use host_storage::Host;
 use program_batch::{Batch, ReportBuffer, Verdict};
 use program_console::{Outputs, StreamFault};
-use program_surveys::WholeTask;
+use program_surveys::{WholeTask, read_contents};
 use std::alloc::Global;
 use std::io::Write;
 

@@ -1,16 +1,16 @@
 //! `Readings`: the dumps that are merged, and what is printed and reported of the other files.
 ghost use Rattle.std.specs.Prelude.{◌≡◌, Ok as read, Err as not_read, Some, None, ◌++◌, ◌∷◌, [], OnOk, length};
 ghost use Rattle.d64_g64.specs.DumpOf.{dump_of};
-ghost use Rattle.cmd_diff.specs.Differences.{contents_by, uncompared_line, printed_fault};
+ghost use Rattle.program_surveys.specs.FileContents.{contents_by};
 ghost use Rattle.cmd_merge.specs.Reports.{no_readings, with_dump, with_fault, with_file_bytes, with_read_file, is_answered};
 
-use cmd_diff::{print_fault, push_fault_line};
 use d64_g64::refill_from;
 use d64_image::Image;
 use d64_survey::{Dump, DumpFault};
 use out_json_csv::Scratch;
 use program_arguments::DiffForm;
 use program_batch::Reason;
+use program_surveys::{print_fault, push_fault_line};
 use std::alloc::{AllocError, Global};
 use std::marker::Model;
 use std::mem;

@@ -2,3 +2,4 @@ pub mod SurveyFiles
 pub mod Surveys
 pub mod JobEnds
 pub mod Printings
+pub mod FileContents

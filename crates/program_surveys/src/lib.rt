@@ -4,6 +4,7 @@
 #![tactic(auto)]
 
 mod dump_buffer;
+mod file_contents;
 mod file_names;
 mod printer;
 mod survey_job;
@@ -11,6 +12,7 @@ mod survey_report;
 mod whole_task;
 
 pub use dump_buffer::DumpBuffer;
+pub use file_contents::{print_fault, push_fault_line, read_contents};
 pub use file_names::FileNames;
 pub use printer::Printer;
 pub use survey_job::SurveyJob;

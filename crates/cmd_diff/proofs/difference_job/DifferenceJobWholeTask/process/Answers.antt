@@ -1,8 +1,9 @@
 use Rattle.std.proofs.Common.{rules, ◌≡◌, ◌∙◌, ap}
 use Rattle.program_batch.specs.Answers.{Answer}
-use Rattle.cmd_diff.specs.Differences.{contents_by, difference_rule}
+use Rattle.cmd_diff.specs.Differences.{difference_rule}
 use Rattle.cmd_diff.proofs.ComparisonRuns.{compared, same_answer, wants_memory, was_cut}
 use Rattle.cmd_diff.proofs.difference_job.DifferenceJobWholeTask.process.Goals as goal
+use Rattle.program_surveys.specs.FileContents.{contents_by}
 
 -- there was no memory for a report
 pub returns-in_err-report-clause-ended : goal.returns-in_err-report-clause-ended

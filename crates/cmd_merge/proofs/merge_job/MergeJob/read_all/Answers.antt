@@ -1,10 +1,9 @@
 use Rattle.std.proofs.Common.{◌≡◌, refl, rules}
 use Rattle.std.specs.Prelude.{string_bytes}
-use Rattle.cmd_diff.specs.Differences.{Contents, contents_by}
 use Rattle.cmd_merge.specs.Reports.{with_read_file}
-use Rattle.cmd_diff.specs.Comparisons.{IsReadAs}
 use Rattle.cmd_merge.proofs.MergeRuns.{files_left, no_files_left}
 use Rattle.cmd_merge.proofs.merge_job.MergeJob.read_all.Goals as goal
+use Rattle.program_surveys.specs.FileContents.{Contents, contents_by, IsReadAs}
 
 pub loop-name-init : goal.loop-name-init
 loop-name-init g c = record {
