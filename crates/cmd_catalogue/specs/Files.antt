@@ -10,8 +10,7 @@ use Rattle.d64_survey.specs.Owners.{way_slots}
 use Rattle.d64_survey.specs.SlotBlocks.{slot_blocks}
 use Rattle.d64_survey.specs.declared.flaw.Flaw.{Flaw}
 use Rattle.petscii.specs.Spelling.{spelling}
-use Rattle.out_messages.specs.FileText.{letters_of, flaws_text}
-use Rattle.cmd_files.specs.FileTable.{locked_text}
+use Rattle.out_messages.specs.FileText.{letters_of, locked_text, flaws_text}
 use Rattle.out_markup.specs.Markup.{element}
 use Rattle.cmd_catalogue.specs.Elements.{linked_text_in, text_in}
 use Rattle.cmd_catalogue.specs.Links.{Naming, file_url, first_naming, naming_after}

@@ -9,8 +9,8 @@ use Rattle.d64_inventory.specs.Rows.{file_row_of}
 use Rattle.cmd_extract_contents.specs.Portions.{Portion, portion_at}
 use Rattle.cmd_extract_contents.specs.Limits.{limit, left_after, portion_within}
 use Rattle.cmd_extract_contents.specs.declared.extent.Extent.TheVariants.{Content}
-use Rattle.cmd_extract.specs.Paths.{done_path, path_in}
-use Rattle.cmd_extract.specs.Progress.{host_name_of_row}
+use Rattle.host_names.specs.Paths.{done_path, path_in}
+use Rattle.cmd_extract_contents.specs.HostFileNames.{host_name_of_row}
 use Rattle.cmd_catalogue.specs.Urls.{url_of}
 
 -- the folder of the image with this name, below the links' folder; None if there is no such folder,

@@ -11,11 +11,10 @@ ghost use Rattle.cmd_catalogue.specs.Namings.{naming_of};
 
 use crate::element::{push_linked_text_in, push_text_in};
 use crate::host_files::HostFiles;
-use cmd_files::locked_text;
 use d64_files::Entry;
 use d64_image::Image;
 use d64_survey::{Flaw, Inspection, wholeness};
-use out_messages::{blocks_there, kind_letters, push_flaws, push_number};
+use out_messages::{blocks_there, kind_letters, locked_text, push_flaws, push_number};
 use petscii::push_spelling;
 use std::alloc::AllocError;
 

@@ -1,16 +1,15 @@
 //! The host files to which the names of files are links.
 ghost use Rattle.std.specs.Prelude.{◌≡◌, if◌then◌else◌, Some, None, option_map, string_bytes, IfOk, OnOk};
 ghost use Rattle.d64_inventory.specs.Rows.{known_kind};
-ghost use Rattle.cmd_extract.specs.Progress.{ending_by};
+ghost use Rattle.cmd_extract_contents.specs.HostFileNames.{ending_by};
 ghost use Rattle.cmd_catalogue.specs.Links.{folder_of, first_naming, file_name, file_url, naming_after};
 ghost use Rattle.cmd_catalogue.specs.Namings.{naming_of};
 
 use crate::url::put_url;
-use cmd_extract::{done_path, ending_by, put_path};
-use cmd_extract_contents::ContentExtraction;
+use cmd_extract_contents::{ContentExtraction, ending_by};
 use d64_files::Entry;
 use d64_survey::Inspection;
-use host_names::{Ending, ImagePlace, TakenNames};
+use host_names::{Ending, ImagePlace, TakenNames, done_path, put_path};
 use petscii::push_spelling;
 use std::alloc::{AllocError, Global};
 
@@ -86,7 +85,7 @@ impl HostFiles {
 
     /// Names the host file of the next entry's file, and returns whether there is one: it needs a
     /// content that fits after the files before. The name is taken from then on.
-    #[tactic(auto, unfolding(crate::specs::Links::file_name, crate::specs::Links::naming_after, cmd_extract::specs::Progress::host_name_of_row, d64_inventory::specs::Rows::file_row_of))]
+    #[tactic(auto, unfolding(crate::specs::Links::file_name, crate::specs::Links::naming_after, cmd_extract_contents::specs::HostFileNames::host_name_of_row, d64_inventory::specs::Rows::file_row_of))]
     fn name_next(&mut self, all: &Inspection, entry: &Entry) -> Result<bool, AllocError>
         ensures name { IfOk result (λ is_written. (if is_written then Some self.new.name.items else None) ≡ file_name all.now (naming_of self.old) entry.now) }
         ensures naming { OnOk result (naming_of self.new ≡ naming_after all.now (naming_of self.old) entry.now) }

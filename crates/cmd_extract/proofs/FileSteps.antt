@@ -14,7 +14,7 @@ use Rattle.out_messages.specs.FaultLines.{too_much_line}
 use Rattle.cmd_files.specs.Files.{after_rows}
 use Rattle.cmd_files.specs.Extracts.{as_json, printed_file}
 use Rattle.cmd_extract.specs.Setup.{TaskView}
-use Rattle.cmd_extract.specs.Paths.{path_in}
+use Rattle.host_names.specs.Paths.{path_in}
 use Rattle.cmd_extract.specs.Progress.{Progress, portion_of, row_name, reported_progress, spent_progress, named_progress, written_progress, unwritten_progress}
 use Rattle.cmd_extract.specs.declared.list_state.ListState.{ListState}
 use Rattle.cmd_extract.specs.Work.{Work, NewFile, SaysFile, LeadsTo}

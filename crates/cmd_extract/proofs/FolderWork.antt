@@ -5,8 +5,8 @@ use Rattle.program_batch.specs.declared.reason.Reason.{Reason}
 use Rattle.host_storage.specs.Files.{HostState}
 use Rattle.d64_leftovers.specs.Rows.{wanted_rows}
 use Rattle.cmd_files.specs.Selections.{files_and}
-use Rattle.cmd_extract.specs.Setup.{TaskView}
-use Rattle.cmd_extract.specs.Paths.{path_inside, list_in}
+use Rattle.cmd_extract.specs.Setup.{TaskView, list_in}
+use Rattle.host_names.specs.Paths.{path_inside}
 use Rattle.cmd_extract.specs.Progress.{Progress, progress_before_files}
 use Rattle.cmd_extract.specs.Work.{Work, Done, Then, Why, Look, NewFolder, Rename, CallReturns, LeadsTo}
 use Rattle.cmd_extract.specs.Unpacking.{unfinished_answer, finished_answer, unnamed_answer, unmade_answer, present_answer, skipped_answer, after_naming, name_work, unmade_work, files_work, folder_work, folders_work, folder_after, present_work, task_work_with}

@@ -5,7 +5,7 @@ use Rattle.d64_survey.specs.Dump.{DumpView}
 use Rattle.d64_g64.specs.DumpOf.{dump_of}
 use Rattle.host_names.specs.ImagePlace.{folders_of}
 use Rattle.cmd_extract.specs.Setup.{ExtractSetupView}
-use Rattle.cmd_extract.specs.Paths.{done_path, partial_path}
+use Rattle.host_names.specs.Paths.{done_path, partial_path}
 use Rattle.cmd_extract.specs.Work.{Done}
 use Rattle.cmd_extract.specs.Unpacking.{unread_answer, dump_work, unpacking, task_work, task_work_with, task_of}
 

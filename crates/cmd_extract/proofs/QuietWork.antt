@@ -15,8 +15,8 @@ use Rattle.program_batch.specs.declared.report.Verdict.TheVariants.{Clean, Amiss
 use Rattle.host_names.specs.ImagePlace.{folders_of}
 use Rattle.d64_inventory.specs.ListingAmiss.{is_listing_amiss}
 use Rattle.cmd_files.specs.Selections.{files_and}
-use Rattle.cmd_extract.specs.Setup.{ExtractSetupView, TaskView}
-use Rattle.cmd_extract.specs.Paths.{path_inside, with_slash, list_in, path_in}
+use Rattle.cmd_extract.specs.Setup.{ExtractSetupView, TaskView, list_in}
+use Rattle.host_names.specs.Paths.{path_inside, with_slash, path_in}
 use Rattle.cmd_extract.specs.Work.{Work, Done, Then, Why, Look, Rename, DoesWork}
 use Rattle.cmd_extract.specs.Progress.{Progress, waiting_limit, progress_before_files, portion_of, row_name, reported_progress, spent_progress, named_progress, written_progress, unwritten_progress, failed_at, put_progress, unput_progress, dropped_progress}
 use Rattle.cmd_extract.specs.declared.list_state.ListState.{ListState}

@@ -20,9 +20,10 @@ use Rattle.host_names.proofs.Tails.{rests, not_ended}
 use Rattle.host_names.proofs.SafeNames.{name_ends}
 use Rattle.cmd_files.specs.Extracts.{as_json, printed_file}
 use Rattle.cmd_files.specs.Selections.{files_and}
-use Rattle.cmd_extract.specs.Setup.{TaskView}
-use Rattle.cmd_extract.specs.Paths.{path_in, with_slash, list_path}
-use Rattle.cmd_extract.specs.Progress.{Progress, waiting_limit, progress_before_files, portion_of, ending_by, is_part, orphan_stem, host_name_of_row, row_name, reported_progress, spent_progress, named_progress, written_progress, put_progress}
+use Rattle.cmd_extract.specs.Setup.{TaskView, list_path}
+use Rattle.host_names.specs.Paths.{path_in, with_slash}
+use Rattle.cmd_extract_contents.specs.HostFileNames.{ending_by, is_part, host_name_of_row}
+use Rattle.cmd_extract.specs.Progress.{Progress, waiting_limit, progress_before_files, portion_of, orphan_stem, row_name, reported_progress, spent_progress, named_progress, written_progress, put_progress}
 use Rattle.cmd_extract.specs.declared.list_state.ListState.{ListState}
 use Rattle.cmd_extract.specs.declared.list_state.ListState.TheVariants.{New, Begun, GivenUp}
 use Rattle.cmd_extract.specs.Work.{Work, Rename, Done, Then}

@@ -1,5 +1,4 @@
 pub mod Setup
-pub mod Paths
 pub mod Work
 pub mod Progress
 pub mod Unpacking

@@ -5,7 +5,7 @@ use Rattle.cmd_extract_contents.specs.Portions.{Portion}
 use Rattle.cmd_extract_contents.specs.Limits.{left_after, portion_within}
 use Rattle.cmd_files.specs.Extracts.{as_json, printed_file}
 use Rattle.cmd_extract.specs.Setup.{TaskView}
-use Rattle.cmd_extract.specs.Paths.{path_in}
+use Rattle.host_names.specs.Paths.{path_in}
 use Rattle.cmd_extract.specs.Work.{Work, Done, Then, Why, HostCall, Look, Folder, NewFolder, NewFile, MoreOfFile, Rename}
 use Rattle.cmd_extract.specs.Progress.{portion_of, row_name}
 

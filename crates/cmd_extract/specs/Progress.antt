@@ -1,30 +1,25 @@
 -- How far the files of an image are unpacked.
 use Rattle.std.specs.Prelude.{ℕ, Bool, true, false, List, [], ◌∷◌, ◌++◌, Option, Some, None, codes, decimal}
-use Rattle.std.specs.Option.{option_map_or}
 use Rattle.petscii.specs.Spelling.{spelling}
 use Rattle.d64_image.specs.Block.{pair_at}
 use Rattle.d64_files.specs.Name.{name_in}
-use Rattle.d64_files.specs.declared.kind.Kind.{Kind}
-use Rattle.d64_files.specs.declared.kind.Kind.TheVariants as kinds
-use Rattle.d64_inventory.specs.Rows.{FileRowView}
 use Rattle.d64_leftovers.specs.declared.orphan_row.OldSlot.{OldSlot}
 use Rattle.d64_leftovers.specs.declared.row.ListedRow.{ListedRow}
 use Rattle.d64_leftovers.specs.declared.row.ListedRow.TheVariants.{File, Deleted, Orphan}
 use Rattle.cmd_extract_contents.specs.Portions.{Portion}
+use Rattle.cmd_extract_contents.specs.HostFileNames.{is_part, host_name_of_row}
 use Rattle.cmd_extract_contents.specs.RowPortions.{row_portion}
 use Rattle.cmd_extract_contents.specs.Limits.{limit, left_after}
 use Rattle.cmd_extract_contents.specs.declared.extent.Extent.{Extent}
-use Rattle.cmd_extract_contents.specs.declared.extent.Extent.TheVariants as extents
 use Rattle.host_names.specs.TakenNames.{next_name}
-use Rattle.host_names.specs.declared.ending.Ending.{Ending}
 use Rattle.host_names.specs.declared.ending.Ending.TheVariants as endings
 use Rattle.program_batch.specs.Reasons.{with_known_reason}
 use Rattle.program_batch.specs.declared.reason.Reason.{Reason}
 use Rattle.out_messages.specs.FaultLines.{unwritten_line}
 use Rattle.cmd_files.specs.Files.{before_rows}
 use Rattle.cmd_files.specs.Extracts.{as_json, printed_file}
-use Rattle.cmd_extract.specs.Setup.{TaskView}
-use Rattle.cmd_extract.specs.Paths.{path_in, list_path}
+use Rattle.cmd_extract.specs.Setup.{TaskView, list_path}
+use Rattle.host_names.specs.Paths.{path_in}
 use Rattle.cmd_extract.specs.declared.list_state.ListState.{ListState}
 use Rattle.cmd_extract.specs.declared.list_state.ListState.TheVariants.{New, Begun, GivenUp}
 
@@ -55,27 +50,6 @@ progress_before_files task = record {
   complaint = [];
   has_failed = false;
 }
-
--- the ending of the host name by the kind of a file
-abbrev pub ending_of : Kind → Ending
-ending_of kinds.Del = endings.Del
-ending_of kinds.Seq = endings.Seq
-ending_of kinds.Prg = endings.Prg
-ending_of kinds.Usr = endings.Usr
-ending_of kinds.Rel = endings.Rel
-
--- the same if there may be no kind: then there is nothing to write
-abbrev pub ending_by : Option Kind → Ending
-ending_by kind = option_map_or ending_of kind endings.Del
-
--- only a part of a file is written
-abbrev pub is_part : Extent → Bool
-is_part extents.Content = false
-is_part extents.Part = true
-
--- the host name of a file, where these are taken
-unfoldable pub host_name_of_row : List (List ℕ) → FileRowView → Extent → List ℕ
-host_name_of_row taken row extent = next_name taken (spelling (name_in row.field)) (ending_by row.kind) (is_part extent)
 
 -- the track and the sector of a block, as in a host name
 abbrev pub pair_stem : ℕ × ℕ → List ℕ

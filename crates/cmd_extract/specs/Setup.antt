@@ -1,7 +1,8 @@
 -- The options of an extraction, and an image that is unpacked.
-use Rattle.std.specs.Prelude.{ℕ, Bool, List}
+use Rattle.std.specs.Prelude.{ℕ, Bool, List, codes}
 use Rattle.d64_survey.specs.Dump.{DumpView}
 use Rattle.cmd_files.specs.declared.form.Form.{Form}
+use Rattle.host_names.specs.Paths.{path_in}
 
 -- the options: the folder below which all is written, whether parts are written too, whether
 -- complete images are skipped, and the form of the output
@@ -19,3 +20,11 @@ pub record TaskView : Type 0 where
   pub dump : DumpView
   pub done : List ℕ
   pub partial : List ℕ
+
+-- the path of the list of the files of an image in a folder
+abbrev pub list_in : List ℕ → List ℕ
+list_in folder = path_in folder (codes "files.jsonl")
+
+-- the path of the list while the image is being unpacked
+abbrev pub list_path : TaskView → List ℕ
+list_path task = list_in task.partial

@@ -19,8 +19,8 @@ use Rattle.program_batch.specs.declared.reason.Reason.{Reason}
 use Rattle.program_batch.specs.declared.report.Verdict.{Verdict}
 use Rattle.program_batch.specs.declared.report.Verdict.TheVariants.{Clean, Amiss, Failed}
 use Rattle.host_names.specs.ImagePlace.{folders_of}
-use Rattle.cmd_extract.specs.Setup.{ExtractSetupView, TaskView}
-use Rattle.cmd_extract.specs.Paths.{path_inside, with_slash, done_path, partial_path, path_in, list_in, list_path}
+use Rattle.cmd_extract.specs.Setup.{ExtractSetupView, TaskView, list_in, list_path}
+use Rattle.host_names.specs.Paths.{path_inside, with_slash, done_path, partial_path, path_in}
 use Rattle.cmd_extract.specs.Work.{Work, Done, Then, Why, Look, Folder, NewFolder, NewFile, MoreOfFile, Rename}
 use Rattle.cmd_extract.specs.Progress.{Progress, waiting_limit, progress_before_files, portion_of, row_name, reported_progress, spent_progress, named_progress, written_progress, unwritten_progress, put_progress, unput_progress, dropped_progress}
 use Rattle.cmd_extract.specs.declared.list_state.ListState.{ListState}

@@ -8,24 +8,22 @@ ghost use Rattle.cmd_extract.specs.Work.{Work, Comes};
 ghost use Rattle.d64_files.specs.Name.{name_in};
 ghost use Rattle.host_names.specs.TakenNames.{next_name};
 ghost use Rattle.host_names.specs.declared.ending.Ending.TheVariants.{Orphan as orphan_ending};
-ghost use Rattle.cmd_extract.specs.Progress.{Progress, is_part, waiting_limit, progress_before_files, portion_of, orphan_stem, row_name, spent_progress, written_progress, unwritten_progress, put_progress};
+ghost use Rattle.cmd_extract_contents.specs.HostFileNames.{is_part};
+ghost use Rattle.cmd_extract.specs.Progress.{Progress, waiting_limit, progress_before_files, portion_of, orphan_stem, row_name, spent_progress, written_progress, unwritten_progress, put_progress};
 ghost use Rattle.cmd_extract.specs.FilesNow.{progress_of_files};
-ghost use Rattle.cmd_extract.specs.Setup.{TaskView};
-ghost use Rattle.cmd_extract.specs.Paths.{list_path};
+ghost use Rattle.cmd_extract.specs.Setup.{TaskView, list_path};
 ghost use Rattle.cmd_extract.specs.Unpacking.{after_putting, write_work, file_work, files_work, wait_work, put_work, closed_progress};
 
 use crate::calls::{extend_file, make_file, reason_at};
-use crate::ending::{ending_by, is_part};
 use crate::list_state::ListState;
-use crate::paths::put_path;
 use crate::reporting::Reported;
 use crate::setup::Task;
-use cmd_extract_contents::{ContentExtraction, Extent};
+use cmd_extract_contents::{ContentExtraction, Extent, ending_by};
 use cmd_files::print_after;
 use d64_files::name_in;
 use d64_image::BlockNo;
 use d64_leftovers::{ListedRow, OldSlot, OrphanRow, RowList};
-use host_names::{Ending, TakenNames};
+use host_names::{Ending, TakenNames, put_path};
 use host_storage::Host;
 use itoa::Buffer;
 use out_messages::too_much_line;
@@ -70,7 +68,7 @@ fn take_name(
 {
     text.clear();
     push_spelling(text, name_in(field))?;
-    taken.take(text, ending, is_part(extent), name)
+    taken.take(text, ending, extent.is_part(), name)
 }
 
 /// Puts the name of an orphan into a text, in the place of what that had: the name in an old slot,
@@ -105,11 +103,11 @@ fn take_orphan_name(
     ensures taken { OnOk result (taken.new ≡ taken.old ++ name.new.items ∷ []) }
 {
     put_orphan_stem(text, chain.first, chain.old)?;
-    taken.take(text, Ending::Orphan, is_part(extent), name)
+    taken.take(text, Ending::Orphan, extent.is_part(), name)
 }
 
 /// Names the host file of the file of a row. The name is taken from then on.
-#[tactic(auto, unfolding(crate::specs::Progress::row_name, crate::specs::Progress::host_name_of_row))]
+#[tactic(auto, unfolding(crate::specs::Progress::row_name, cmd_extract_contents::specs::HostFileNames::host_name_of_row))]
 fn name_file(
     taken: &mut TakenNames,
     text: &mut Vec<u8>,

@@ -4,18 +4,14 @@
 
 mod answering;
 mod calls;
-mod ending;
 mod files;
 mod folders;
 mod list_state;
-mod paths;
 mod reporting;
 mod setup;
 mod task;
 pub mod unpack_laws;
 mod unpacker;
 
-pub use ending::ending_by;
-pub use paths::{done_path, put_path};
 pub use setup::ExtractSetup;
 pub use unpacker::Unpacker;

@@ -1,9 +1,10 @@
 //! The folder of an image, made call by call of the host.
-ghost use Rattle.std.specs.Prelude.{map};
+ghost use Rattle.std.specs.Prelude.{◌≡◌, map, string_bytes, IfOk};
 ghost use Rattle.d64_inventory.specs.Rows.{rows};
-ghost use Rattle.cmd_extract.specs.Paths.{path_inside};
+ghost use Rattle.host_names.specs.Paths.{path_inside};
 ghost use Rattle.cmd_extract.specs.Work.{EndsWork};
 ghost use Rattle.cmd_extract.specs.FilesNow.{progress_of_files};
+ghost use Rattle.cmd_extract.specs.Setup.{list_in};
 ghost use Rattle.cmd_extract.specs.Unpacking.{name_work, unmade_work, folder_work, folders_work, folder_after, present_work, task_work_with};
 
 use crate::answering::{
@@ -13,11 +14,11 @@ use crate::answering::{
 use crate::calls::{is_there, make_folder, reason_at, rename};
 use crate::files::Files;
 use crate::folders::have_folders;
-use crate::paths::{inside, list_in};
 use crate::setup::Task;
+use host_names::path_inside;
 use host_storage::Host;
 use program_batch::{ReportBuffer, Verdict};
-use std::alloc::AllocError;
+use std::alloc::{AllocError, Global};
 
 impl<'a, 'd> Task<'a, 'd> {
     /// Gives the image's folder its name, if all was written, and returns the verdict.
@@ -91,7 +92,7 @@ impl<'a, 'd> Task<'a, 'd> {
         ensures { EndsWork result buffer.new (folders_work (folder_after self.now) (path_inside self.now.setup.into) (map (λ folder. folder.now) folders.now)) (H.state host.old) (H.state host.new) }
     {
         let setup = self.setup;
-        let start = inside(self.alloc, &setup.into)?;
+        let start = path_inside(self.alloc, &setup.into)?;
         match have_folders(host, start, folders)? {
             Some(path) => self.end_unmade(&path, files, host, buffer),
             None => self.unpack_folder(files, host, buffer),
@@ -137,4 +138,14 @@ impl<'a, 'd> Task<'a, 'd> {
         }
         self.unpack_below(folders, files, host, buffer)
     }
+}
+
+/// Returns the path of the list of an image's files in this folder.
+fn list_in(alloc: Global, folder: &str) -> Result<String, AllocError>
+    ensures { IfOk result (λ path. string_bytes path ≡ list_in folder.now) }
+{
+    let mut path = String::from_str(alloc, folder)?;
+    path.push('/')?;
+    path.push_str("files.jsonl")?;
+    Ok(path)
 }

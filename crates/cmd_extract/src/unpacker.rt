@@ -6,13 +6,12 @@ ghost use Rattle.cmd_extract.specs.Unpacking.{task_work, task_of, unpacking};
 
 use crate::answering::{report_unread, report_wrong_length};
 use crate::files::Files;
-use crate::paths::{done_path, partial_path};
 use crate::setup::{ExtractSetup, Task};
 use cmd_files::print_extract_heading;
 use d64_g64::refill_from;
 use d64_image::Image;
 use d64_survey::{Dump, DumpFault, Fault, Inspection, ReadError};
-use host_names::ImagePlace;
+use host_names::{ImagePlace, done_path, partial_path};
 use host_storage::Host;
 use program_batch::{FileTask, ReportBuffer, Verdict};
 use std::alloc::{AllocError, Global};

@@ -2,3 +2,4 @@ pub mod Portions
 pub mod RowPortions
 pub mod Limits
 pub mod ExtractLaws
+pub mod HostFileNames

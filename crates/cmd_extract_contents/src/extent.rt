@@ -10,3 +10,17 @@ pub enum Extent {
     /// broken, or it is a DEL entry.
     Part,
 }
+
+impl Extent {
+    ghost use Rattle.cmd_extract_contents.specs.HostFileNames.{is_part};
+
+    /// Whether only a part of a file is written.
+    pub fn is_part(self) -> bool
+        ensures { result ≡ is_part self }
+    {
+        match self {
+            Extent::Content => false,
+            Extent::Part => true,
+        }
+    }
+}

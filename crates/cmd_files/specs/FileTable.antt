@@ -15,7 +15,7 @@ use Rattle.d64_survey.specs.declared.read_error.ReadError.{ReadError}
 use Rattle.d64_inventory.specs.Rows.{FileRowView}
 use Rattle.out_messages.specs.CheckText.{label_text}
 use Rattle.out_messages.specs.FaultText.{fault_text, read_error_text}
-use Rattle.out_messages.specs.FileText.{kind_letters, flaws_text}
+use Rattle.out_messages.specs.FileText.{kind_letters, locked_text, flaws_text}
 use Rattle.out_messages.specs.Names.{quoted_name}
 use Rattle.host_names.specs.Shown.{shown_name}
 use Rattle.out_messages.specs.Words.{line_below}
@@ -54,10 +54,6 @@ abbrev pub state_by : Option Bool → FileRowView → List ℕ
 state_by None row = unknown_text row
 state_by (Some true) row = codes "whole"
 state_by (Some false) row = reasons row
-
--- that a file is locked
-abbrev pub locked_text : Bool → List ℕ
-locked_text locked = if locked then codes ", locked" else []
 
 -- the letters of a kind
 abbrev pub kind_text : Option Kind → List ℕ

@@ -31,4 +31,4 @@ pub use form::Form;
 pub use json_line::row_json;
 pub use missing::push_missing_lines;
 pub use printing::{print_after, print_before};
-pub use table::{locked_text, push_file_line, push_head_line};
+pub use table::{push_file_line, push_head_line};

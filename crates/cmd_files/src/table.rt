@@ -1,14 +1,14 @@
 //! The files of an image as a table for people.
 ghost use Rattle.std.specs.Prelude.{◌≡◌, ◌≤◌, ◌++◌, decimal, OnOk};
 ghost use Rattle.out_messages.specs.Names.{quoted_name};
-ghost use Rattle.cmd_files.specs.FileTable.{spaces, right_in, left_in, head_line, blocks_there, reasons, unknown_text, state_by, locked_text, kind_text, file_state_text, slot_text, slot_line};
+ghost use Rattle.cmd_files.specs.FileTable.{spaces, right_in, left_in, head_line, blocks_there, reasons, unknown_text, state_by, kind_text, file_state_text, slot_text, slot_line};
 
 use d64_files::{Kind, name_in};
 use d64_image::Image;
 use d64_inventory::FileRow;
 use host_names::push_shown;
 use itoa::Buffer;
-use out_messages::{kind_letters, push_flaws, push_label, push_quoted};
+use out_messages::{kind_letters, locked_text, push_flaws, push_label, push_quoted};
 use std::alloc::AllocError;
 
 /// The width of the size, in columns.
@@ -98,13 +98,6 @@ fn push_wholeness(out: &mut Vec<u8>, row: &FileRow) -> Result<(), AllocError>
         Some(false) => push_reasons(out, row),
         None => push_unknown(out, row),
     }
-}
-
-/// Returns the text of a locked file; empty if it is not locked.
-pub fn locked_text(locked: bool) -> &'static [u8]
-    ensures { result.now ≡ locked_text locked }
-{
-    if locked { b", locked" } else { b"" }
 }
 
 /// Returns the letters of a kind.

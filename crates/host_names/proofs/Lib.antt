@@ -14,3 +14,4 @@ pub mod Reserved
 pub mod ShownNames
 pub mod PrintedNames
 pub mod PlainTexts
+pub mod FolderLists

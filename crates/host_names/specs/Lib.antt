@@ -5,3 +5,4 @@ pub mod ImagePlace
 pub mod Laws
 pub mod Digest
 pub mod Records
+pub mod Paths

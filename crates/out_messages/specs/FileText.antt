@@ -1,5 +1,5 @@
 -- The files that are not whole, in words.
-use Rattle.std.specs.Prelude.{ℕ, suc, ◌==◌, if◌then◌else◌, List, [], ◌∷◌, ◌++◌, length, codes, decimal}
+use Rattle.std.specs.Prelude.{ℕ, suc, ◌==◌, Bool, if◌then◌else◌, List, [], ◌∷◌, ◌++◌, length, codes, decimal}
 use Rattle.std.specs.List.{flat_map}
 use Rattle.d64_image.specs.Disk.{Disk, Bytes}
 use Rattle.d64_files.specs.Slot.{has_kind, kind_of, name_of, size_of}
@@ -21,6 +21,10 @@ kind_letters Seq = codes "seq"
 kind_letters Prg = codes "prg"
 kind_letters Usr = codes "usr"
 kind_letters Rel = codes "rel"
+
+-- that a file is locked
+abbrev pub locked_text : Bool → List ℕ
+locked_text locked = if locked then codes ", locked" else []
 
 -- the letters of a slot's file
 abbrev pub letters_of : Bytes → List ℕ

@@ -4,7 +4,7 @@ ghost use Rattle.d64_files.specs.Slot.{EntryView};
 ghost use Rattle.d64_survey.specs.Owners.{blocks_from, way_slots};
 ghost use Rattle.d64_survey.specs.SlotBlocks.{slot_blocks};
 ghost use Rattle.out_messages.specs.Words.{line_below};
-ghost use Rattle.out_messages.specs.FileText.{kind_letters, letters_of, size_text, comma, flaw_text, flaws_text, file_text, file_line, file_lines};
+ghost use Rattle.out_messages.specs.FileText.{kind_letters, letters_of, locked_text, size_text, comma, flaw_text, flaws_text, file_text, file_line, file_lines};
 
 use crate::number::push_number;
 use crate::words::{LINE_END, LINE_START, push_count, push_quoted};
@@ -24,6 +24,13 @@ pub fn kind_letters(kind: Kind) -> &'static str
         Kind::Usr => "usr",
         Kind::Rel => "rel",
     }
+}
+
+/// Returns the text of a locked file; empty if it is not locked.
+pub fn locked_text(locked: bool) -> &'static [u8]
+    ensures { result.now ≡ locked_text locked }
+{
+    if locked { b", locked" } else { b"" }
 }
 
 /// Returns the letters of a slot's file.

@@ -19,7 +19,7 @@ pub use fault_line::{
     wrong_length_line,
 };
 pub use fault_text::{push_fault, push_read_error, push_status};
-pub use file_text::{blocks_there, kind_letters, push_flaws};
+pub use file_text::{blocks_there, kind_letters, locked_text, push_flaws};
 pub use first_characters::shown_start;
 pub use guess::{Guess, guess_of, guess_text};
 pub use image_text::{check_text, push_contents, push_label, push_state};

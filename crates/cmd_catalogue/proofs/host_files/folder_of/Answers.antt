@@ -4,7 +4,7 @@ use Rattle.std.specs.Str.{is_utf8}
 use Rattle.std.proofs.lemmas.Bool.{false_from_ne_true}
 use Rattle.std.proofs.lemmas.Str.{is_utf8-from_IsUtf8, IsUtf8-from_is_utf8}
 use Rattle.host_names.specs.ImagePlace.{finished_name, folders_of, last_part}
-use Rattle.cmd_extract.specs.Paths.{done_path, path_inside, place_below}
+use Rattle.host_names.specs.Paths.{done_path, path_inside, place_below}
 use Rattle.cmd_catalogue.specs.Links.{folder_of}
 use Rattle.cmd_catalogue.proofs.host_files.folder_of.Goals as goal
 

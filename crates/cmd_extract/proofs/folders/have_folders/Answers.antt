@@ -1,8 +1,9 @@
 use Rattle.std.proofs.Common.{◌≡◌, ℕ, ◌+◌, List, ◌++◌, [], None, drop, get_or, refl, ap, ◌∙◌, subst, string_bytes, Bor, arith}
-use Rattle.cmd_extract.specs.Paths.{with_slash}
+use Rattle.host_names.specs.Paths.{with_slash}
 use Rattle.cmd_extract.specs.Work.{CallReturns, Folder}
 use Rattle.cmd_extract.proofs.Steps.{stops, further, match_not}
-use Rattle.cmd_extract.proofs.FolderSteps.{texts, next_folder, no_folder, had_folder, lacked_folder, had_all}
+use Rattle.host_names.proofs.FolderLists.{texts, next_folder, no_folder}
+use Rattle.cmd_extract.proofs.FolderSteps.{had_folder, lacked_folder, had_all}
 use Rattle.cmd_extract.proofs.folders.have_folders.Goals as goal
 
 -- a folder with an empty path

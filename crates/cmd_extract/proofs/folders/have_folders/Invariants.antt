@@ -1,7 +1,7 @@
 use Rattle.std.proofs.Common.{ℕ, List, Option, drop, string_bytes}
 use Rattle.cmd_extract.specs.Work.{Work, LeadsTo}
 use Rattle.cmd_extract.specs.Unpacking.{folders_work}
-use Rattle.cmd_extract.proofs.FolderSteps.{texts}
+use Rattle.host_names.proofs.FolderLists.{texts}
 use Rattle.cmd_extract.proofs.folders.have_folders.Given as goal
 
 abbrev pub invariant-loop-folder : goal.invariant-loop-folder

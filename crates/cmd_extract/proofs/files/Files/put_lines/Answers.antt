@@ -1,5 +1,5 @@
 use Rattle.std.proofs.Common.{◌≡◌, rules, List, ℕ, sym, ◌∙◌, subst}
-use Rattle.cmd_extract.specs.Paths.{list_path}
+use Rattle.cmd_extract.specs.Setup.{list_path}
 use Rattle.cmd_extract.specs.FilesNow.{progress_of_files}
 use Rattle.cmd_extract.specs.Work.{LeadsTo}
 use Rattle.cmd_extract.specs.Unpacking.{after_putting, put_work}

@@ -1,5 +1,5 @@
 use Rattle.std.proofs.Common.{◌≡◌, rules}
-use Rattle.cmd_extract.specs.Paths.{path_in}
+use Rattle.host_names.specs.Paths.{path_in}
 use Rattle.cmd_extract.specs.Progress.{written_progress, unwritten_progress}
 use Rattle.cmd_extract.specs.FilesNow.{progress_of_files}
 use Rattle.cmd_extract.specs.Unpacking.{after_writing, write_work}

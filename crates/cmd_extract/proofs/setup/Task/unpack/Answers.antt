@@ -5,8 +5,8 @@ use Rattle.cmd_extract.specs.Setup.{TaskView}
 use Rattle.cmd_extract.specs.Work.{Done, answer_in}
 use Rattle.cmd_extract.specs.Unpacking.{present_answer, folders_work, folder_after, present_work, task_work_with}
 use Rattle.cmd_extract.proofs.Steps.{further, ends_after, ends_with}
-use Rattle.cmd_extract.specs.Paths.{path_inside}
-use Rattle.cmd_extract.proofs.FolderSteps.{texts}
+use Rattle.host_names.specs.Paths.{path_inside}
+use Rattle.host_names.proofs.FolderLists.{texts}
 use Rattle.cmd_extract.proofs.FolderWork.{is_done, not_done, is_begun, not_begun}
 use Rattle.cmd_extract.proofs.setup.Task.unpack.Goals as goal
 

@@ -4,8 +4,8 @@ use Rattle.cmd_extract.specs.Work.{EndsWork, LeadsTo}
 use Rattle.cmd_extract.specs.Unpacking.{unmade_work, folders_work, folder_after}
 use Rattle.cmd_extract.proofs.Steps.{stops, ends_after, ends_not}
 use Rattle.std.specs.Prelude.{option_map}
-use Rattle.cmd_extract.specs.Paths.{path_inside}
-use Rattle.cmd_extract.proofs.FolderSteps.{texts}
+use Rattle.host_names.specs.Paths.{path_inside}
+use Rattle.host_names.proofs.FolderLists.{texts}
 use Rattle.cmd_extract.proofs.setup.Task.unpack_below.Goals as goal
 
 pub returns-in_err-start : goal.returns-in_err-start

@@ -1,9 +1,9 @@
 use Rattle.std.proofs.Common.{◌≡◌, ℕ, List, ◌++◌, ap, ◌∙◌, subst, string_bytes}
 use Rattle.host_names.specs.ImagePlace.{folders_of, finished_name, unfinished_name}
 use Rattle.cmd_extract.specs.declared.unpacker.Unpacker.{Unpacker}
-use Rattle.cmd_extract.specs.Paths.{path_inside, place_below, done_path, partial_path}
+use Rattle.host_names.specs.Paths.{path_inside, place_below, done_path, partial_path}
 use Rattle.cmd_extract.specs.Work.{Work, EndsWork}
-use Rattle.cmd_extract.proofs.FolderSteps.{texts}
+use Rattle.host_names.proofs.FolderLists.{texts}
 use Rattle.cmd_extract.proofs.GivenFiles.{task_made}
 use Rattle.cmd_extract.proofs.Steps.{stops, ends_not}
 use Rattle.cmd_extract.proofs.unpacker.Unpacker.unpack_dump.Goals as goal

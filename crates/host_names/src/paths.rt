@@ -1,9 +1,9 @@
-//! The paths of the folder of an image, and of what is in it.
+//! The paths of the folder that the files of an image get, and of these files.
 ghost use Rattle.std.specs.Prelude.{◌≡◌, ◌++◌, map, string_bytes, IfOk, OnOk};
 ghost use Rattle.host_names.specs.ImagePlace.{finished_name, unfinished_name};
-ghost use Rattle.cmd_extract.specs.Paths.{ends_in_slash, path_inside, place_below, path_in, list_in};
+ghost use Rattle.host_names.specs.Paths.{ends_in_slash, path_inside, place_below, path_in};
 
-use host_names::ImagePlace;
+use crate::image_place::ImagePlace;
 use std::alloc::{AllocError, Global};
 
 /// Whether a path ends in a `/`.
@@ -18,7 +18,7 @@ fn ends_in_slash(path: &[u8]) -> bool
 
 /// Returns what the paths in a folder begin with: the folder's path, and a `/`, unless it ends in
 /// one.
-pub(crate) fn inside(alloc: Global, folder: &str) -> Result<String, AllocError>
+pub fn path_inside(alloc: Global, folder: &str) -> Result<String, AllocError>
     ensures { IfOk result (λ path. string_bytes path ≡ path_inside folder.now) }
 {
     let mut path = String::from_str(alloc, folder)?;
@@ -44,7 +44,7 @@ fn go_below(place: &mut String, folders: &[&str]) -> Result<(), AllocError>
 fn place_of(alloc: Global, into: &str, place: &ImagePlace) -> Result<String, AllocError>
     ensures { IfOk result (λ path. string_bytes path ≡ place_below (path_inside into.now) (map (λ folder. folder.now) place.now.folders.items)) }
 {
-    let mut path = inside(alloc, into)?;
+    let mut path = path_inside(alloc, into)?;
     go_below(&mut path, place.folders.as_slice())?;
     Ok(path)
 }
@@ -59,25 +59,11 @@ pub fn done_path(alloc: Global, into: &str, place: &ImagePlace) -> Result<String
 }
 
 /// Returns the path of that folder before.
-pub(crate) fn partial_path(
-    alloc: Global,
-    into: &str,
-    place: &ImagePlace,
-) -> Result<String, AllocError>
+pub fn partial_path(alloc: Global, into: &str, place: &ImagePlace) -> Result<String, AllocError>
     ensures { IfOk result (λ path. string_bytes path ≡ place_below (path_inside into.now) (map (λ folder. folder.now) place.now.folders.items) ++ unfinished_name place.now.last.now) }
 {
     let mut path = place_of(alloc, into, place)?;
     place.push_partial_name(&mut path)?;
-    Ok(path)
-}
-
-/// Returns the path of the list of an image's files in this folder.
-pub(crate) fn list_in(alloc: Global, folder: &str) -> Result<String, AllocError>
-    ensures { IfOk result (λ path. string_bytes path ≡ list_in folder.now) }
-{
-    let mut path = String::from_str(alloc, folder)?;
-    path.push('/')?;
-    path.push_str("files.jsonl")?;
     Ok(path)
 }
 

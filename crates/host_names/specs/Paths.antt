@@ -1,8 +1,7 @@
--- The paths at which an image is unpacked.
+-- The paths of the folder that the files of an image get, and of these files.
 use Rattle.std.specs.Prelude.{ℕ, ◌-◌, ◌==◌, Bool, if◌then◌else◌, List, [], ◌∷◌, ◌++◌, length, slice_index, codes}
 use Rattle.host_names.specs.HostName.{slash}
 use Rattle.host_names.specs.ImagePlace.{folders_of, image_name, partial_name}
-use Rattle.cmd_extract.specs.Setup.{TaskView}
 
 -- a path with a `/` at its end
 abbrev pub with_slash : List ℕ → List ℕ
@@ -36,11 +35,3 @@ partial_path into name = place_of into name ++ partial_name name
 -- the path of a file in a folder
 abbrev pub path_in : List ℕ → List ℕ → List ℕ
 path_in folder file = with_slash folder ++ file
-
--- the path of the list of the files of an image in a folder
-abbrev pub list_in : List ℕ → List ℕ
-list_in folder = path_in folder (codes "files.jsonl")
-
--- the path of the list while the image is being unpacked
-abbrev pub list_path : TaskView → List ℕ
-list_path task = list_in task.partial

@@ -1,6 +1,6 @@
 use Rattle.std.proofs.Common.{ap, ◌∙◌, ◌++◌, ◌∷◌, [], List, ℕ, string_bytes, arith}
-use Rattle.cmd_extract.proofs.FolderSteps.{gone_below, all_below}
-use Rattle.cmd_extract.proofs.paths.go_below.Goals as goal
+use Rattle.host_names.proofs.FolderLists.{gone_below, all_below}
+use Rattle.host_names.proofs.paths.go_below.Goals as goal
 
 pub loop-folder-preserved : goal.loop-folder-preserved
 loop-folder-preserved c =

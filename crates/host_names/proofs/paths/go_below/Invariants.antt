@@ -1,6 +1,6 @@
 use Rattle.std.proofs.Common.{◌≡◌, drop, map, string_bytes, Bor, ℕ, List}
-use Rattle.cmd_extract.specs.Paths.{place_below}
-use Rattle.cmd_extract.proofs.paths.go_below.Given as goal
+use Rattle.host_names.specs.Paths.{place_below}
+use Rattle.host_names.proofs.paths.go_below.Given as goal
 
 abbrev pub invariant-loop-folder : goal.invariant-loop-folder
 invariant-loop-folder l =

@@ -1,8 +1,7 @@
 //! The endings of host names.
 ghost use Rattle.std.specs.Prelude.{◌≡◌};
-ghost use Rattle.cmd_extract.specs.Progress.{ending_by, is_part};
+ghost use Rattle.cmd_extract_contents.specs.HostFileNames.{ending_by};
 
-use cmd_extract_contents::Extent;
 use d64_files::Kind;
 use host_names::Ending;
 
@@ -16,15 +15,5 @@ pub fn ending_by(kind: Option<Kind>) -> Ending
         Some(Kind::Prg) => Ending::Prg,
         Some(Kind::Usr) => Ending::Usr,
         Some(Kind::Rel) => Ending::Rel,
-    }
-}
-
-/// Whether only a part of a file is written.
-pub(crate) fn is_part(extent: Extent) -> bool
-    ensures { result ≡ is_part extent }
-{
-    match extent {
-        Extent::Content => false,
-        Extent::Part => true,
     }
 }
