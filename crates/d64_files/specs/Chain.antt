@@ -8,11 +8,11 @@ use Rattle.d64_image.specs.Image.{sector_at}
 use Rattle.d64_files.specs.declared.chain.Link.{Link}
 use Rattle.d64_files.specs.declared.chain.Link.TheVariants.{End, To, Broken}
 
--- the link of a block: the track and the sector in its bytes 0 and 1
+-- a block's link: the track and sector in bytes 0 and 1
 abbrev pub link_at : Disk → ℕ → ℕ × ℕ
 link_at image block = (slice_index (sector_at image block) 0, slice_index (sector_at image block) 1)
 
--- a block's number; None if the image has no such block
+-- the block, if the image has it
 abbrev pub held_block : Disk → ℕ → Option ℕ
 held_block image block = if nat_lt block (length image) then Some block else None
 
@@ -20,21 +20,20 @@ held_block image block = if nat_lt block (length image) then Some block else Non
 abbrev pub LieIn : Disk → Blocks → Type 0
 LieIn image blocks = All (λ block. block < length image) blocks
 
--- the block of a track and a sector; None if the image has no such block
+-- the block of a track and sector, if the image has it
 unfoldable pub block_in : Disk → ℕ → ℕ → Option ℕ
 block_in image track sector = option_and_then (held_block image) (block_of track sector)
 
--- the link to a block, or a broken one if there is no block
+-- a link to a block, broken without one
 abbrev pub link_to : Option ℕ → Link
 link_to None = Broken
 link_to (Some block) = To block
 
--- where a track and a sector lead as a link: a track of 0 ends the chain, every other link leads to
--- the block that it names
+-- where a link leads: track 0 ends the chain, others lead to their block
 unfoldable pub led_by : Disk → ℕ × ℕ → Link
 led_by image link = if link.0 == 0 then End else link_to (block_in image link.0 link.1)
 
--- where the link of a block leads
+-- where a block's link leads
 abbrev pub link_of : Disk → ℕ → Link
 link_of image block = led_by image (link_at image block)
 
@@ -47,23 +46,22 @@ Chain image start (block ∷ []) = (block ≡ start) × (start < length image) �
 Chain image start (block ∷ next ∷ rest) =
     (block ≡ start) × (start < length image) × (link_of image start ≡ To next) × Chain image next (next ∷ rest) × (list_any (nat_eq start) (next ∷ rest) ≡ false)
 
--- a block and then a chain that doesn't have it; the empty list if there is no chain, or it has the
--- block
+-- a block and the chain behind it; empty if the chain is, or has the block
 abbrev pub chain_behind : ℕ → Blocks → Blocks
 chain_behind block [] = []
 chain_behind block (next ∷ rest) = if list_any (nat_eq block) (next ∷ rest) then [] else block ∷ next ∷ rest
 
--- the chain from a block with this link, if it follows at most n links; else the empty list
+-- the chain from a block with this link, over at most n links; else empty
 unfoldable pub chain_by : ℕ → Disk → ℕ → Link → Blocks
 chain_by links image block End = block ∷ []
 chain_by links image block Broken = []
 chain_by zero image block (To next) = []
 chain_by (suc links) image block (To next) = chain_behind block (chain_by links image next (link_of image next))
 
--- the chain from a block, or the empty list if there is no chain
+-- the chain from a block, or the empty list
 unfoldable pub chain : Disk → ℕ → Blocks
 chain image start = if nat_lt start (length image) then chain_by (length image) image start (link_of image start) else []
 
--- the chain from the block of a track and a sector, or the empty list if there is no chain
+-- the same from a track and sector
 abbrev pub chain_from : Disk → ℕ → ℕ → Blocks
 chain_from image track sector = option_map_or (chain image) (block_in image track sector) []

@@ -5,7 +5,7 @@ use Rattle.std.specs.FinSet as set
 use Rattle.d64_image.specs.Disk.{Blocks}
 use Rattle.d64_files.specs.declared.claims.Claims.{Claims}
 
--- whether a block comes twice in a list
+-- whether a block comes twice
 abbrev pub has_repeats : Blocks → Bool
 has_repeats [] = false
 has_repeats (block ∷ blocks) = list_any (nat_eq block) blocks || has_repeats blocks

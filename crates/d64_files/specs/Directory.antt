@@ -12,27 +12,25 @@ use Rattle.d64_files.specs.Slot.{EntryView, cells, HasKind, is_used, name_of}
 use Rattle.d64_files.specs.declared.dir_fault.DirFault.{DirFault}
 use Rattle.d64_files.specs.declared.dir_fault.DirFault.TheVariants.{WrongCounts, NoDirectory, UnknownKind, NoChain, CrossLinked, MarkedFree}
 
--- the directory's blocks: the chain from track 18, sector 1; the empty list if there is no chain
+-- its blocks: the chain from track 18, sector 1
 abbrev pub directory : Disk → Blocks
 directory image = chain_from image 18 1
 
--- the slots of blocks, eight in each block, block by block
+-- the slots of blocks, in order
 abbrev pub slots_in : Disk → Blocks → List Bytes
 slots_in image blocks = flat_map (λ block. cells (sector_at image block)) blocks
 
--- the slots of the directory
 abbrev pub slots : Disk → List Bytes
 slots image = slots_in image (directory image)
 
--- the blocks that are owned: the map's, the directory's, and those of each slot
+-- the map's block, the directory's, and those of each slot
 unfoldable pub owned_blocks : Disk → Blocks
 owned_blocks image = map_block ∷ (directory image ++ flat_map (owned_by image) (slots image))
 
--- the blocks that the slot of a number owns; no block if there is no such slot
+-- the blocks owned by the slot of a number
 abbrev pub slot_owns : Disk → ℕ → Blocks
 slot_owns image slot = option_map_or (owned_by image) (slice_get (slots image) slot) []
 
--- slots with their numbers, from 0
 abbrev pub numbered_slots : List Bytes → List (ℕ × Bytes)
 numbered_slots cells = enumerate_from 0 cells
 
@@ -44,23 +42,21 @@ entry_of image slot = record { slot = slot.0; bytes = slot.1; image = image }
 abbrev pub entries : Disk → List Bytes → List EntryView
 entries image cells = map (entry_of image) (numbered_slots cells)
 
--- whether a slot is used and a pattern matches its name
+-- a pattern matches the name of a used slot
 abbrev pub is_named : Bytes → Bytes → Bool
 is_named pattern cell = is_used cell && matches pattern (name_of cell)
 
--- the number of the first used slot whose name the pattern matches
+-- the number of the first such slot
 abbrev pub first_named : Bytes → List Bytes → Option ℕ
 first_named pattern cells = position (is_named pattern) cells
 
--- whether a slot is used and has exactly this name
+-- a used slot has exactly this name
 abbrev pub has_name : Bytes → Bytes → Bool
 has_name name cell = is_used cell && bytes_eq (name_of cell) name
 
--- whether a used slot among these has exactly this name
 abbrev pub is_name_taken : Bytes → List Bytes → Bool
 is_name_taken name cells = list_any (has_name name) cells
 
--- the number of a condition
 abbrev pub condition_number : DirFault → ℕ
 condition_number WrongCounts = 1
 condition_number NoDirectory = 2

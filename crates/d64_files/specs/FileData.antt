@@ -4,8 +4,7 @@ use Rattle.std.specs.List.{flat_map}
 use Rattle.d64_image.specs.Disk.{Disk, Bytes, Blocks}
 use Rattle.d64_image.specs.Image.{sector_at}
 
--- a block's data: bytes 2 to 255, or if the link's track is 0 up to the last byte used, whose index
--- is byte 1
+-- a block's data: bytes 2 to 255; in the last block up to the index in byte 1
 abbrev pub data_of : Bytes → Bytes
 data_of sector = if slice_index sector 0 == 0 then slice_range sector 2 (slice_index sector 1 + 1) else slice_range sector 2 256
 

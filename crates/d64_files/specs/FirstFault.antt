@@ -13,12 +13,11 @@ use Rattle.d64_files.specs.Slot.{has_kind}
 use Rattle.d64_files.specs.declared.dir_fault.DirFault.{DirFault}
 use Rattle.d64_files.specs.declared.dir_fault.DirFault.TheVariants.{WrongCounts, NoDirectory, UnknownKind, NoChain, CrossLinked, MarkedFree}
 
--- whether a list of blocks is empty
 abbrev pub is_nil : Blocks → Bool
 is_nil [] = true
 is_nil (block ∷ blocks) = false
 
--- whether an image fails the condition of this fault
+-- whether an image has this fault
 unfoldable pub fails : Disk → DirFault → Bool
 fails image WrongCounts = not (list_all (λ track. nat_eq (count_of image track) (members_on (free_blocks image) track)) (range_with_len 1 (tracks_of (length image))))
 fails image NoDirectory = is_nil (directory image)
@@ -44,6 +43,6 @@ abbrev pub err_of : {A : Type 0} → Result A DirFault → Option DirFault
 err_of (Ok value) = None
 err_of (Err fault) = Some fault
 
--- the first of some conditions that an image fails; None if it meets all of them
+-- the first of these conditions that an image fails
 unfoldable pub first_fault : Disk → List DirFault → Option DirFault
 first_fault image conditions = find (fails image) conditions

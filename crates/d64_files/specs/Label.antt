@@ -5,11 +5,11 @@ use Rattle.d64_image.specs.Disk.{Bytes}
 use Rattle.d64_files.specs.declared.label.BadName.{BadName}
 use Rattle.d64_files.specs.declared.label.BadName.TheVariants.{Empty, TooLong, Forbidden}
 
--- `*`, which stands for any rest
+-- `*`: any rest
 abbrev pub star : ℕ
 star = 0x2A
 
--- `?`, which stands for exactly one byte
+-- `?`: exactly one byte
 abbrev pub question_mark : ℕ
 question_mark = 0x3F
 

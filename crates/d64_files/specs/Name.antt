@@ -15,10 +15,10 @@ IsName = IsLabel forbidden_in_names
 abbrev pub is_name : Bytes → Bool
 is_name = is_label forbidden_in_names
 
--- the name in a field: its bytes before the first shifted space
+-- a field's bytes before the first shifted space
 abbrev pub name_in : Bytes → Bytes
 name_in field = take_while (λ byte. not (byte == 0xA0)) field
 
--- a name in its field of 16 bytes, filled with shifted spaces
+-- a name filled with shifted spaces to 16 bytes
 abbrev pub filled_field : Bytes → Bytes
 filled_field name = name ++ replicate (16 - length name) 0xA0

@@ -10,8 +10,7 @@ use Rattle.d64_files.specs.Slot.{is_closed, kind_of, first_pair, side_pair}
 use Rattle.d64_files.specs.declared.kind.Kind.{Kind}
 use Rattle.d64_files.specs.declared.kind.Kind.TheVariants.{Del, Seq, Prg, Usr, Rel}
 
--- the track and the sector from which each chain of a closed file leads: a REL file has a second
--- chain, unless its side track is 0
+-- where each chain of a closed file begins; a REL file may have two
 abbrev pub roots_of : Kind → Bytes → List (ℕ × ℕ)
 roots_of Del cell = []
 roots_of Seq cell = first_pair cell ∷ []
@@ -19,16 +18,15 @@ roots_of Prg cell = first_pair cell ∷ []
 roots_of Usr cell = first_pair cell ∷ []
 roots_of Rel cell = first_pair cell ∷ option_to_list (side_pair cell)
 
--- the track and the sector from which each chain of a slot's file leads; a file that isn't closed
--- has no chain
+-- the same for a slot; a file that isn't closed has no chain
 abbrev pub roots : Bytes → List (ℕ × ℕ)
 roots cell = if is_closed cell then roots_of (kind_of cell) cell else []
 
--- the chain from a track and a sector, or the empty list if there is no chain
+-- the chain from a track and sector
 abbrev pub chain_at : Disk → ℕ × ℕ → Blocks
 chain_at image root = chain_from image root.0 root.1
 
--- the blocks that a slot owns: its chain and its side chain
+-- the blocks of a slot's chains
 abbrev pub owned_by : Disk → Bytes → Blocks
 owned_by image cell = flat_map (chain_at image) (roots cell)
 

@@ -18,7 +18,7 @@ pub data Matches : Bytes → Bytes → Type 0 where
   any_byte : {b : ℕ} {pattern name : Bytes} → Matches pattern name → Matches (question_mark ∷ pattern) (b ∷ name)
   same_byte : {b : ℕ} {pattern name : Bytes} → b ≢ star → b ≢ question_mark → Matches pattern name → Matches (b ∷ pattern) (b ∷ name)
 
--- whether a pattern matches a name
+-- a pattern matches a name
 abbrev pub matches : Bytes → Bytes → Bool
 matches [] [] = true
 matches [] (b ∷ name) = false

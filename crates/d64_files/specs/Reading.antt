@@ -13,12 +13,11 @@ use Rattle.d64_files.specs.declared.kind.Kind.TheVariants.{Del}
 use Rattle.d64_files.specs.declared.reading.ReadFault.{ReadFault}
 use Rattle.d64_files.specs.declared.reading.ReadFault.TheVariants.{Directory, NotFound, NotClosed, WrongType, Memory}
 
--- whether a file's kind is DEL
 abbrev pub is_del : Kind → Bool
 is_del Del = true
 is_del kind = false
 
--- why the file of a slot can't be read: the first that applies
+-- why a slot's file can't be read: the first that applies
 unfoldable pub file_refusal : Disk → Bytes → Option ReadFault
 file_refusal image cell =
     if not (is_used cell) then Some NotFound
@@ -26,7 +25,7 @@ file_refusal image cell =
     else (if is_del (kind_of cell) then Some WrongType
     else (if is_nil (chain_at image (first_pair cell)) then Some (Directory NoChain) else None)))
 
--- why the file of a slot can't be read, if there may be no such slot
+-- the same, if there may be no slot
 abbrev pub slot_refusal : Disk → Option Bytes → Option ReadFault
 slot_refusal image None = Some NotFound
 slot_refusal image (Some cell) = file_refusal image cell
@@ -35,11 +34,11 @@ slot_refusal image (Some cell) = file_refusal image cell
 unfoldable pub content_refusal : Disk → ℕ → Option ReadFault
 content_refusal image slot = option_or (option_map Directory (first_fault image reading_conditions)) (slot_refusal image (slice_get (slots image) slot))
 
--- the content of the file of a slot's bytes: the data of its chain
+-- the data of the chain of a slot's file
 abbrev pub file_content : Disk → Bytes → Bytes
 file_content image cell = data_along image (chain_at image (first_pair cell))
 
--- the content of the file of a slot; nothing if there is no such slot
+-- the same by a slot's number; nothing if there is no such slot
 abbrev pub content_at : Disk → ℕ → Bytes
 content_at image slot = option_map_or (file_content image) (slice_get (slots image) slot) []
 

@@ -12,27 +12,25 @@ pub record EntryView : Type 0 where
   pub bytes : Bytes
   pub image : Disk
 
--- the bytes of one slot of a block
+-- the bytes of a slot
 abbrev pub cell : Bytes → ℕ → Bytes
 cell bytes index = take 32 (drop (32 * index) bytes)
 
--- the eight slots of a block
+-- a block's eight slots
 unfoldable pub cells : Bytes → List Bytes
 cells bytes = map (cell bytes) (range_with_len 0 8)
 
--- the type byte of a slot
 abbrev pub type_byte : Bytes → ℕ
 type_byte cell = slice_index cell 2
 
--- whether a bit of a byte is 1
+-- whether a bit is 1
 abbrev pub has_bit : ℕ → ℕ → Bool
 has_bit byte bit = not (bit_and byte (2 ^ bit) == 0)
 
--- whether a slot is used: its type byte isn't 0
 abbrev pub is_used : Bytes → Bool
 is_used cell = not (type_byte cell == 0)
 
--- the number of a file's kind, the low four bits of the type byte
+-- the low four bits of the type byte
 abbrev pub kind_number : Bytes → ℕ
 kind_number cell = type_byte cell % 16
 
@@ -40,39 +38,35 @@ kind_number cell = type_byte cell % 16
 abbrev pub HasKind : Bytes → Type 0
 HasKind cell = kind_number cell ≤ 4
 
--- whether there is a kind with the number in a slot
+-- whether that number is a kind's
 abbrev pub has_kind : Bytes → Bool
 has_kind cell = nat_le (kind_number cell) 4
 
--- the kinds, in the order of their numbers
+-- in the order of their numbers
 abbrev pub kinds : List Kind
 kinds = Del ∷ Seq ∷ Prg ∷ Usr ∷ Rel ∷ []
 
--- a file's kind
 abbrev pub kind_of : Bytes → Kind
 kind_of cell = slice_index_or kinds (kind_number cell) Del
 
--- whether a file is locked: bit 6 of the type byte is 1
 abbrev pub is_locked : Bytes → Bool
 is_locked cell = has_bit (type_byte cell) 6
 
--- whether a file is closed: bit 7 of the type byte is 1
 abbrev pub is_closed : Bytes → Bool
 is_closed cell = has_bit (type_byte cell) 7
 
--- the track and the sector of a file's first block
+-- the track and sector of the first block
 abbrev pub first_pair : Bytes → ℕ × ℕ
 first_pair cell = (slice_index cell 3, slice_index cell 4)
 
--- the field of the name: 16 bytes
+-- the name's field of 16 bytes
 abbrev pub field_of : Bytes → Bytes
 field_of cell = slice_range cell 5 21
 
--- a file's name: its field up to the first shifted space
 abbrev pub name_of : Bytes → Bytes
 name_of cell = name_in (field_of cell)
 
--- the track and the sector of a file's first side block; None if that track is 0
+-- the first side block's track and sector, unless the track is 0
 abbrev pub side_pair : Bytes → Option (ℕ × ℕ)
 side_pair cell = if slice_index cell 0x15 == 0 then None else Some (slice_index cell 0x15, slice_index cell 0x16)
 
@@ -80,6 +74,6 @@ side_pair cell = if slice_index cell 0x15 == 0 then None else Some (slice_index 
 abbrev pub geos_type : Bytes → ℕ
 geos_type cell = slice_index cell 0x18
 
--- a file's shown size in blocks: two bytes, low first
+-- the shown size in blocks
 abbrev pub size_of : Bytes → ℕ
 size_of cell = slice_index cell 0x1E + 256 * slice_index cell 0x1F

@@ -5,7 +5,7 @@ use Rattle.std.specs.Prelude.{ℕ, List}
 abbrev pub Bytes : Type 0
 Bytes = List ℕ
 
--- a sequence of blocks, each by its number, which is its place in the image
+-- a sequence of blocks, by their numbers, which are places in the image
 abbrev pub Blocks : Type 0
 Blocks = List ℕ
 

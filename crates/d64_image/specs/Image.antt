@@ -13,7 +13,7 @@ IsBlock bytes = (length bytes ≡ BLOCK_BYTES) × All (λ byte. byte < 256) byte
 abbrev pub IsSize : ℕ → Type 0
 IsSize count = (count ≡ 683) ⊎ (count ≡ 768)
 
--- how many tracks an image of n blocks has
+-- how many tracks n blocks have
 abbrev pub tracks_of : ℕ → ℕ
 tracks_of count = if count == 768 then 40 else 35
 
@@ -37,7 +37,7 @@ is_image_length len = (len == 174848) || (len == 196608)
 abbrev pub IsImage : Disk → Type 0
 IsImage image = IsSize (length image) × All IsBlock image
 
--- the content of a block
+-- a block's bytes
 abbrev pub sector_at : Disk → ℕ → Bytes
 sector_at image block = slice_index_or image block []
 

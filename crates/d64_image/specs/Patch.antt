@@ -54,6 +54,6 @@ taken_blocks image patch = map (λ entry. (entry.0, sector_at image entry.0)) pa
 unfoldable pub trimmed_blocks : Disk → Kept → Kept
 trimmed_blocks image patch = filter (λ entry. not (pointwise nat_eq entry.1 (sector_at image entry.0))) patch
 
--- the blocks in which an image differs from the one before it, with their bytes from before
+-- the blocks in which two images differ, with the bytes of the first
 unfoldable pub changed_blocks : Disk → Disk → Kept
 changed_blocks before after = map (λ block. (block, sector_at before block)) (differences before after)

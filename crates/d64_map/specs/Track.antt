@@ -7,14 +7,14 @@ use Rattle.d64_image.specs.Disk.{Blocks}
 use Rattle.d64_image.specs.BlockSet.{BlockSet}
 use Rattle.d64_image.specs.Block.{sectors_on, first_block, block_of}
 
--- the blocks of a track, by sectors rising from 0
+-- a track's blocks, by sector
 unfoldable pub blocks_on : ℕ → Blocks
 blocks_on track = range_with_len (first_block track) (sectors_on track)
 
--- whether the disk has a sector whose block is a member
+-- whether the set has the block of a track's sector
 unfoldable pub has_sector : BlockSet → ℕ → ℕ → Bool
 has_sector blocks track sector = option_map_or (set.contains blocks) (block_of track sector) false
 
--- how many blocks of a track are members
+-- how many members a track has
 unfoldable pub members_on : BlockSet → ℕ → ℕ
 members_on blocks track = count_by (set.contains blocks) (blocks_on track)
