@@ -8,21 +8,21 @@ use Rattle.d64_dos.specs.declared.command.Command.TheVariants as commands
 
 -- a change of a disk
 pub data Change : Type 0 where
-  -- makes an empty disk with this name and this id
+  -- makes an empty disk with this name and id
   Format : Bytes → Bytes → Change
-  -- adds a file with this name, this kind and these bytes
+  -- adds a file: its name, kind and bytes
   Write : Bytes → Kind → Bytes → Change
-  -- deletes the files that these patterns match
+  -- deletes the files that patterns match
   Delete : List Bytes → Change
-  -- brings back a deleted file with this name, as one of this kind
+  -- brings back a deleted file of this name, as this kind
   Undelete : Bytes → Kind → Change
-  -- gives the first file with this name that one
+  -- gives the first file of one name another
   Rename : Bytes → Bytes → Change
-  -- gives the disk this name, and this id, if there is one
+  -- gives the disk a name, and an id if there is one
   Name : Bytes → Option Bytes → Change
-  -- drops unclosed files, and writes the map that the files ask for
+  -- drops unclosed files, and writes the map anew
   Validate : Change
-  -- writes other bytes into one block
+  -- replaces the bytes of a block
   BlockWrite : ℕ → Bytes → Change
 
 -- the change that a command asks for

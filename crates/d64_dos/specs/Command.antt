@@ -32,9 +32,8 @@ pub record Promise : Type 0 where
   pub reply : View → Reply
   pub shows : Disk → View → View
 
--- a command: for an image, the first refusal that applies, the image after it, in which every byte
--- that the command does not name is unchanged, and the reply; and the block that a command names by
--- itself, if it names one
+-- a command: for an image its first refusal, the image after it, with each byte that it doesn't
+-- name unchanged, and the reply; and the block that it names, if any
 pub record Row : Type 0 where
   pub refusal : Disk → Option Refusal
   pub effect : Disk → Disk
@@ -108,11 +107,10 @@ promise_of (Name name id) = Some (record { start = SoundDisk; reply = λ shown. 
 promise_of Validate = Some (record { start = AnyDisk; reply = λ old. Done; shows = λ image old. validated_view old })
 promise_of (BlockWrite at block) = None
 
--- the first refusal of a command that applies to the image; None if the command is accepted
+-- None if the command is accepted
 abbrev pub refusal_of : Disk → Change → Option Refusal
 refusal_of image change = (row change).refusal image
 
--- the image after a command
 abbrev pub image_after : Disk → Change → Disk
 image_after image change = (row change).effect image
 

@@ -7,19 +7,16 @@ use Rattle.d64_files.specs.FirstFault.{first_fault, sound_conditions, owning_con
 use Rattle.d64_dos.specs.declared.refusal.Refusal.{Refusal}
 use Rattle.d64_dos.specs.declared.refusal.Refusal.TheVariants.{NotFound, Exists, Directory}
 
--- why deleting files is refused, as is everything that needs a sound image: the first condition of
--- a sound image that fails
+-- the first condition of a sound image that fails
 abbrev pub unsound_refusal : Disk → Option Refusal
 unsound_refusal image = option_map Directory (first_fault image sound_conditions)
 
--- why a renaming is refused: the first condition of a sound image that fails, then that no file has
--- the old name, then that one has the new name
+-- the first refusal that applies: an unsound image, no file of the old name, one of the new name
 unfoldable pub rename_refusal : Disk → Bytes → Bytes → Option Refusal
 rename_refusal image old new =
     option_or (unsound_refusal image)
     (if is_name_taken old (slots image) then (if is_name_taken new (slots image) then Some Exists else None) else Some NotFound)
 
--- why a validation is refused: the first condition that fails of those on the directory, the files
--- and their chains, whatever the map says
+-- the first fault of directory, files and chains, whatever the map says
 abbrev pub validate_refusal : Disk → Option Refusal
 validate_refusal image = option_map Directory (first_fault image owning_conditions)

@@ -21,8 +21,8 @@ pub record RowView : Type 0 where
   pub kind : Kind
   pub locked : Bool
 
--- a directory: the disk's name up to its first shifted space, its id, its DOS version, a row for
--- each used slot, and the number of free blocks that it shows
+-- a directory: the disk's name, id and DOS version, a row for each used slot, and the number of
+-- free blocks that it shows
 pub record ListingView : Type 0 where
   pub name : Bytes
   pub id : Bytes

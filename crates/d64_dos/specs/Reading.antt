@@ -10,17 +10,17 @@ use Rattle.d64_dos.specs.Refusal.{of_read_fault}
 use Rattle.d64_dos.specs.declared.refusal.Refusal.{Refusal}
 use Rattle.d64_dos.specs.declared.refusal.Refusal.TheVariants.{NotFound, Directory}
 
--- the refusal for a directory that can't be read
+-- why a directory can't be read
 abbrev pub directory_refusal : Disk → Option Refusal
 directory_refusal image = option_map Directory (first_fault image reading_conditions)
 
--- why the slot that was found can't be read, if one was found
+-- why a found slot can't be read
 abbrev pub found_refusal : Disk → Option ℕ → Option Refusal
 found_refusal image None = Some NotFound
 found_refusal image (Some slot) = option_map of_read_fault (slot_refusal image (slice_get (slots image) slot))
 
--- why a file can't be read by a pattern: first a fault of the directory, then one of the first used
--- slot whose name the pattern matches
+-- why a file can't be read by a pattern: a fault of the directory, then one of the first used slot
+-- that it matches
 unfoldable pub read_refusal : Disk → Bytes → Option Refusal
 read_refusal image pattern = option_or (directory_refusal image) (found_refusal image (first_named pattern (slots image)))
 

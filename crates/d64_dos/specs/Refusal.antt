@@ -5,7 +5,7 @@ use Rattle.d64_files.specs.declared.reading.ReadFault.TheVariants as faults
 use Rattle.d64_dos.specs.declared.refusal.Refusal.{Refusal}
 use Rattle.d64_dos.specs.declared.refusal.Refusal.TheVariants.{NotClosed, NotFound, WrongType, Directory, Memory}
 
--- the refusal for which the image has a cause: any but that memory is out
+-- a refusal that the image causes: any but out of memory
 abbrev pub cause_of : Refusal → Option Refusal
 cause_of Memory = None
 cause_of refusal = Some refusal

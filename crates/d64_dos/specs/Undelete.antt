@@ -18,32 +18,32 @@ use Rattle.d64_dos.specs.WriteRefusal.{is_writable}
 use Rattle.d64_dos.specs.declared.refusal.Refusal.{Refusal}
 use Rattle.d64_dos.specs.declared.refusal.Refusal.TheVariants.{NotFound, Exists, WrongType, Lost}
 
--- a scratched slot of exactly this name
+-- a scratched slot with exactly this name
 abbrev pub is_scratched_as : Bytes → Bytes → Bool
 is_scratched_as name cell = is_scratched cell && bytes_eq (name_of cell) name
 
--- the chain to which a slot leads
+-- a slot's chain
 abbrev pub chain_of : Disk → Bytes → Blocks
 chain_of image cell = chain_at image (first_pair cell)
 
--- the file of a slot isn't lost: there is a chain of free blocks, as many as the slot shows
+-- the file isn't lost: its chain has only free blocks, as many as the slot shows
 abbrev pub is_file_left : Disk → Bytes → Bool
 is_file_left image cell =
     nat_lt 0 (length (chain_of image cell))
     && (list_all (set.contains (free_blocks image)) (chain_of image cell) && length (chain_of image cell) == size_of cell)
 
--- a scratched slot of a lower number leads to the block
+-- a scratched slot before this one leads to the block
 abbrev pub is_claimed : Disk → ℕ → ℕ → Bool
 is_claimed image slot block = list_any (λ cell. is_scratched cell && list_any (nat_eq block) (chain_of image cell)) (take slot (slots image))
 
 -- the first scratched slot of this name whose file isn't lost and has no claimed block, else the
--- first whose file isn't lost; None if all are lost
+-- first whose file isn't lost
 unfoldable pub slot_to_undelete : Disk → Bytes → Option ℕ
 slot_to_undelete image name =
     let left = filter (λ slot. is_scratched_as name slot.1 && is_file_left image slot.1) (numbered_slots (slots image)) in
     option_map (λ slot. slot.0) (option_or (find (λ slot. not (list_any (is_claimed image slot.0) (chain_of image slot.1))) left) (slice_get left 0))
 
--- the first refusal that applies
+-- the first that applies
 unfoldable pub undelete_refusal : Disk → Bytes → Kind → Option Refusal
 undelete_refusal image name kind =
     if not (is_writable kind)

@@ -13,20 +13,19 @@ use Rattle.d64_dos.specs.FileRefusals.{unsound_refusal}
 use Rattle.d64_dos.specs.declared.refusal.Refusal.{Refusal}
 use Rattle.d64_dos.specs.declared.refusal.Refusal.TheVariants.{Exists, WrongType, DiskFull}
 
--- whether files of this kind can be written: SEQ, PRG and USR
+-- SEQ, PRG and USR can be written
 abbrev pub is_writable : Kind → Bool
 is_writable Del = false
 is_writable Rel = false
 is_writable kind = true
 
--- whether a disk has room for a file of n bytes and for its entry
+-- room for a file's n bytes and its entry
 abbrev pub has_room : Disk → ℕ → Bool
 has_room image bytes =
     nat_le (blocks_for bytes) (room (free_blocks image))
     && (is_some (first_unused (slots image)) || is_some (next_of_directory (free_blocks image) (dir_last image)))
 
--- the first refusal of a write that applies: by the kind, then by the first condition of a sound
--- image that fails, then by the name, then for lack of room
+-- the first refusal that applies: by the kind, an unsound image, the name, lack of room
 unfoldable pub write_refusal : Disk → Bytes → Kind → ℕ → Option Refusal
 write_refusal image name kind bytes =
     if not (is_writable kind)

@@ -6,15 +6,14 @@ use Rattle.d64_map.specs.Map.{map_block}
 use Rattle.d64_files.specs.Name.{filled_field}
 use Rattle.d64_files.specs.Writing.{written_at}
 
--- the map's block with another id, if one is given
+-- another id in the map's block, if given
 abbrev pub with_id : Bytes → Option Bytes → Bytes
 with_id bytes None = bytes
 with_id bytes (Some id) = written_at bytes 0xA2 id
 
--- the map's block with another name in the disk's field, and another id, if one is given
+-- the map's block with another name, and another id if given
 unfoldable pub labelled : Bytes → Bytes → Option Bytes → Bytes
 labelled bytes name id = with_id (written_at bytes 0x90 (filled_field name)) id
 
--- the image with that label in its map's block
 unfoldable pub named_disk : Disk → Bytes → Option Bytes → Disk
 named_disk image name id = with_sector image map_block (labelled (sector_at image map_block) name id)

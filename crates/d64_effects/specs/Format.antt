@@ -9,12 +9,12 @@ use Rattle.d64_map.specs.Map.{map_block, all_of, with_map}
 use Rattle.d64_files.specs.Name.{filled_field}
 use Rattle.d64_files.specs.Writing.{empty_directory}
 
--- the directory's first block: track 18, sector 1
+-- track 18, sector 1
 abbrev pub directory_start : ℕ
 directory_start = 358
 
--- the map's block before the map is written, part by part: the directory's first track and sector,
--- the format `A`, no map yet, the name, the id, the DOS version `2A`, and nothing more
+-- the map's block before the map is written: the directory's start, format `A`, name, id, DOS
+-- version `2A`
 unfoldable pub header : Bytes → Bytes → Bytes
 header name id =
     (0x12 ∷ 0x01 ∷ [])
@@ -28,17 +28,15 @@ header name id =
     ++ replicate 4 0xA0
     ++ replicate 85 0x00
 
--- the free blocks of a formatted disk of n blocks: all but the map's block and the directory's
--- first one
+-- all but the map's block and the directory's first
 unfoldable pub free_when_formatted : ℕ → BlockSet
 free_when_formatted count = set.remove (set.remove (all_of count) map_block) directory_start
 
--- the blank image of n blocks, whose bytes are all 0
+-- n blocks of zeros
 unfoldable pub blank_disk : ℕ → Disk
 blank_disk count = replicate count (replicate BLOCK_BYTES 0)
 
--- the blank image of n blocks with the map's block and the directory's first one, and the map of
--- the free blocks
+-- blank but for the map's block and the directory's first
 unfoldable pub formatted_disk : ℕ → Bytes → Bytes → Disk
 formatted_disk count name id =
     with_map (with_sector (with_sector (blank_disk count) map_block (header name id)) directory_start empty_directory) (free_when_formatted count)

@@ -10,15 +10,15 @@ use Rattle.d64_files.specs.Slot.{is_used, first_pair}
 use Rattle.d64_files.specs.declared.kind.Kind.{Kind}
 use Rattle.d64_effects.specs.Write.{blocks_without}
 
--- the bytes of a slot
+-- the bytes of the slot of a number
 abbrev pub cell_at : Disk → ℕ → Bytes
 cell_at image slot = slice_index_or (slots image) slot []
 
--- the chain to which a slot leads
+-- its chain
 abbrev pub chain_left : Disk → ℕ → Blocks
 chain_left image slot = chain_at image (first_pair (cell_at image slot))
 
--- the image with the file of this kind to which a slot leads
+-- the image with a slot's file back, of this kind, its blocks no longer free
 unfoldable pub undeleted_disk : Disk → ℕ → Kind → Disk
 undeleted_disk image slot kind = with_map (with_type image slot kind) (blocks_without (free_blocks image) (chain_left image slot))
 

@@ -8,19 +8,15 @@ use Rattle.d64_files.specs.Slot.{is_used, is_closed}
 use Rattle.d64_effects.specs.Clear.{slots_where, with_cleared}
 use Rattle.d64_effects.specs.Write.{blocks_without}
 
--- whether a slot is used, and its file isn't closed
 abbrev pub is_unclosed : Bytes → Bool
 is_unclosed cell = is_used cell && not (is_closed cell)
 
--- the numbers of the slots of unclosed files
 abbrev pub unclosed_slots : Disk → List ℕ
 unclosed_slots image = slots_where is_unclosed (slots image)
 
--- all of n blocks but these
 abbrev pub all_but : ℕ → Blocks → BlockSet
 all_but count owned = blocks_without (all_of count) owned
 
--- the image after a validation: without the unclosed files, and with exactly the blocks free that
--- have no owner
+-- the image without unclosed files, and with exactly the unowned blocks free
 unfoldable pub validated_disk : Disk → Disk
 validated_disk image = with_map (with_cleared image (unclosed_slots image)) (all_but (length image) (owned_blocks image))

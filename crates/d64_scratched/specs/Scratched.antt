@@ -11,7 +11,7 @@ use Rattle.d64_survey.specs.declared.way_end.WayEnd.{WayEnd}
 use Rattle.d64_scratched.specs.declared.loss.Loss.{Loss}
 use Rattle.d64_scratched.specs.declared.loss.Loss.TheVariants.{Chain, Reused, Marked, Size, Claimed, Unreadable}
 
--- a slot is scratched if its type byte is 0 and the track of its first pair isn't
+-- a scratched slot: its type byte is 0, but its first pair's track isn't
 abbrev pub is_scratched : Bytes → Bool
 is_scratched cell = not (is_used cell) && not ((first_pair cell).0 == 0)
 

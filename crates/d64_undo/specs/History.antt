@@ -4,7 +4,7 @@ use Rattle.d64_image.specs.Disk.{Disk}
 use Rattle.d64_image.specs.Image.{differences}
 use Rattle.d64_image.specs.Patch.{Kept, changed_blocks}
 
--- a history is a list of whole images with a cursor
+-- a list of whole images with a cursor
 pub record History : Type 0 where
   pub images : List Disk
   pub cursor : ℕ
@@ -13,11 +13,10 @@ pub record History : Type 0 where
 abbrev pub IsHistory : History → Type 0
 IsHistory history = history.cursor < length history.images
 
--- the image at a place of the history, from 0
+-- the image at a place, from 0
 abbrev pub image_at : History → ℕ → Disk
 image_at history place = slice_index_or history.images place []
 
--- the image at the cursor
 abbrev pub present_image : History → Disk
 present_image history = image_at history history.cursor
 
@@ -25,32 +24,31 @@ present_image history = image_at history history.cursor
 abbrev pub new_history : Disk → History
 new_history image = record { images = image ∷ []; cursor = 0 }
 
--- the history with an image added after the present one, and without what came after the cursor,
--- also if nothing changed
+-- a new image in place of all after the cursor, even if nothing changed
 abbrev pub extended_history : History → Disk → History
 extended_history history image = record {
   images = take (history.cursor + 1) history.images ++ image ∷ [];
   cursor = history.cursor + 1;
 }
 
--- the history with the cursor one image back
+-- the cursor one image back
 abbrev pub undone_history : History → History
 undone_history history = record history { cursor = history.cursor - 1 }
 
--- the history with the cursor one image on
+-- the cursor one image on
 abbrev pub redone_history : History → History
 redone_history history = record history { cursor = history.cursor + 1 }
 
--- in how many blocks the images before and after a record differ; None if the history has no such
--- record; each record has the number of the image before it, from 0
+-- in how many blocks the images before and after a record differ; None if there is no such record;
+-- records are numbered from 0
 abbrev pub record_len : History → ℕ → Option ℕ
 record_len history number =
     if nat_lt (number + 1) (length history.images)
     then Some (length (differences (image_at history number) (image_at history (number + 1))))
     else None
 
--- the blocks in which the images before and after a record differ, ascending: with their bytes from
--- before it if it is done, and from after it if it is undone
+-- those blocks, ascending: with their bytes from before the record if it is done, else from after
+-- it
 abbrev pub record_blocks : History → ℕ → Kept
 record_blocks history number =
     if nat_lt number history.cursor

@@ -30,8 +30,8 @@ IsAskedOf image (Apply change) = IsWithin image change
 IsAskedOf image Undo = Unit {0}
 IsAskedOf image Redo = Unit {0}
 
--- a request, its reply, and the history before and after it: the only free choice is that memory is
--- out in place of an acceptance
+-- a request, its reply, and the history before and after it; the only choice is that memory is out
+-- in place of an acceptance
 abbrev pub Step : History → Asked → Answer → History → Type 0
 Step history (Apply change) (Accepted reply) next =
     (refusal_of (present_image history) change ≡ None)
@@ -45,7 +45,7 @@ Step history Redo Redone next = (history.cursor + 1 < length history.images) × 
 Step history Redo NothingToRedo next = (length history.images ≤ history.cursor + 1) × (next ≡ history)
 Step history request answer next = ⊥
 
--- requests, their replies in turn, and the history before the first and after the last one
+-- requests, their replies in turn, and the history before and after them
 abbrev pub Run : History → List Asked → List Answer → History → Type 0
 Run history [] [] next = next ≡ history
 Run history (request ∷ requests) (answer ∷ answers) next =

@@ -7,19 +7,19 @@ use Rattle.d64_image.specs.Image.{IsImage, tracks_of, bytes_of}
 use Rattle.d64_image.specs.Patch.{Kept}
 use Rattle.d64_undo.specs.History.{History, IsHistory, present_image, record_blocks}
 
--- the bytes at the beginning of each session file: D64S
+-- each session file begins with D64S
 abbrev pub magic : Bytes
 magic = 0x44 ∷ 0x36 ∷ 0x34 ∷ 0x53 ∷ []
 
--- a block of a record: its index and its bytes
+-- a block of a record: index and bytes
 abbrev pub block_file : ℕ × Bytes → Bytes
 block_file entry = to_le_bytes w16 entry.0 ++ entry.1
 
--- a record: its number of blocks, and each of its blocks
+-- a record: how many blocks, and each of them
 abbrev pub record_file : Kept → Bytes
 record_file patch = to_le_bytes w16 (length patch) ++ flat_map block_file patch
 
--- the file of a present image and of all records, oldest first, of which n are done
+-- the file of a present image and all records, oldest first, of which n are done
 unfoldable pub file_with : Disk → ℕ → List Kept → Bytes
 file_with image done records =
     magic ++ tracks_of (length image) ∷ bytes_of image ++ to_le_bytes w64 done ++ to_le_bytes w64 (length records) ++ flat_map record_file records
