@@ -14,13 +14,13 @@ data_token = 0x83
 abbrev pub rem_token : ℕ
 rem_token = 0x8f
 
--- What opens a run of bytes that is kept: a quote mark, the keyword `rem`, the keyword `data`.
+-- What opens a run of bytes that is kept: a quote mark, `rem`, `data`.
 pub data Opener : Type 0 where
   QuoteMark : Opener
   RemWord : Opener
   DataWord : Opener
 
--- The bytes of an opener in a text, and its crunched byte in a program.
+-- An opener's bytes in a text, and its crunched byte in a program.
 abbrev pub opening : Opener → List ℕ
 opening QuoteMark = codes "\""
 opening RemWord = codes "REM"
@@ -31,13 +31,12 @@ opener_byte QuoteMark = quote
 opener_byte RemWord = rem_token
 opener_byte DataWord = data_token
 
--- How many quote marks there are in some bytes.
+-- How many quote marks there are.
 abbrev pub quotes_in : List ℕ → ℕ
 quotes_in bytes = count_by (λ byte. byte == quote) bytes
 
--- Whether a byte ends the run behind an opener, after these bytes of the run: behind a quote mark
--- the next one, behind `rem` no byte, behind `data` a colon with an even number of quote marks
--- before it in the run.
+-- Whether a byte ends a run, after these bytes of it: the next quote mark; after `rem` no byte;
+-- after `data` a colon with an even number of quote marks before it.
 abbrev pub ends : Opener → List ℕ → ℕ → Bool
 ends QuoteMark before byte = byte == quote
 ends RemWord before byte = false
@@ -55,7 +54,7 @@ pub record EndsFirst (opener : Opener) (run : List ℕ) : Type 0 where
   pub no_end : HasNoEnd opener before
   pub end : ends opener before byte ≡ true
 
--- The run that is kept behind an opener, and the rest: the run goes up to and including the first
--- byte that ends it, or to the end.
+-- The run that is kept behind an opener, and the rest: the run includes the first byte that ends
+-- it, or goes to the end.
 abbrev pub IsKept : Opener → List ℕ → List ℕ → Type 0
 IsKept opener run rest = EndsFirst opener run ⊎ (HasNoEnd opener run × (rest ≡ []))

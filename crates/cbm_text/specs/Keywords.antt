@@ -2,7 +2,7 @@
 use Rattle.std.specs.Prelude.{ℕ, ◌+◌, ◌-◌, Bool, false, List, [], ◌∷◌, length, drop, Option, Some, None, slice_get, nat_eq, nat_le, if◌then◌else◌, codes, ◌==◌}
 use Rattle.std.specs.List.{starts_with}
 
--- The keywords in the order of their tokens, from $80 on, as bytes of PETSCII.
+-- The keywords in the order of their tokens, from $80 on, in PETSCII.
 unfoldable pub keywords : List (List ℕ)
 keywords =
     codes "END" ∷ codes "FOR" ∷ codes "NEXT" ∷ codes "DATA" ∷ codes "INPUT#" ∷ codes "INPUT" ∷ codes "DIM" ∷ codes "READ"

@@ -4,8 +4,8 @@ use Rattle.cbm_text.specs.declared.fault.ListFault.{ListFault}
 use Rattle.cbm_text.specs.declared.fault.ListFault.TheVariants.{NoAddress, Truncated, Memory}
 use Rattle.cbm_text.specs.Program.{Program, ReadsProgram}
 
--- The bytes have this fault: fewer than two have no load address, and all others that read as no
--- program are cut short.
+-- The fault of bytes: fewer than two have no load address, all others that are no program are cut
+-- short.
 abbrev pub ListsNot : List ℕ → ListFault → Type 0
 ListsNot file NoAddress = length file < 2
 ListsNot file Truncated = (2 ≤ length file) × ((program : Program) → ¬ (ReadsProgram file program))

@@ -11,15 +11,15 @@ use Rattle.cbm_text.specs.Program.{Program, ReadsProgram}
 abbrev pub IsNoOpener : ℕ → Type 0
 IsNoOpener code = (opener : Opener) → code ≢ opener_byte opener
 
--- The first piece of crunched bytes, and what follows it. If an opener is there, it is the opener
--- and the run that is kept behind it; else the token of a keyword; else one byte.
+-- The first piece of crunched bytes, and the rest: an opener and the run behind it, else the token
+-- of a keyword, else one byte.
 abbrev pub CodesBegin : List ℕ → LinePiece → List ℕ → Type 0
 CodesBegin codes (Kept opener run) rest = (codes ≡ opener_byte opener ∷ run ++ rest) × IsKept opener run rest
 CodesBegin codes (Token token) rest = IsNoOpener token × (keyword token ≢ None) × (codes ≡ token ∷ rest)
 CodesBegin codes Question rest = ⊥
 CodesBegin codes (Single byte) rest = IsNoOpener byte × (keyword byte ≡ None) × (codes ≡ byte ∷ rest)
 
--- The crunched bytes are these pieces, one after the other.
+-- The crunched bytes are these pieces in turn.
 abbrev pub AreCodePieces : List ℕ → List LinePiece → Type 0
 AreCodePieces codes pieces = ArePieces CodesBegin codes pieces
 
@@ -27,7 +27,7 @@ AreCodePieces codes pieces = ArePieces CodesBegin codes pieces
 unfoldable pub Listed : List ℕ → List ℕ → Type 0
 Listed codes bytes = (pieces : List LinePiece) × AreCodePieces codes pieces × (bytes ≡ flat_map written_piece pieces)
 
--- A line as text: its number in decimal, a space, the bytes that it stands for in text form, LF.
+-- A line as text: its number in decimal, a space, its bytes in text form, LF.
 abbrev pub line_text : ℕ → List ℕ → List ℕ
 line_text number bytes = decimal number ++ codes " " ++ spelling bytes ++ codes "\n"
 

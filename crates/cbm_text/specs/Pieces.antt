@@ -4,8 +4,8 @@ use Rattle.std.specs.Option.{option_map_or}
 use Rattle.cbm_text.specs.Keywords.{keyword}
 use Rattle.cbm_text.specs.Kept.{Opener, opening, opener_byte}
 
--- A piece of a line: an opener and the run that is kept behind it; another keyword, by its token; a
--- `?`, which is short for `print`; or another byte.
+-- A piece of a line: an opener and the run behind it; another keyword's token; a `?`, short for
+-- `print`; or another byte.
 pub data LinePiece : Type 0 where
   Kept : Opener → List ℕ → LinePiece
   Token : ℕ → LinePiece
@@ -16,7 +16,7 @@ pub data LinePiece : Type 0 where
 abbrev pub print_token : ℕ
 print_token = 0x99
 
--- The bytes of a piece in a text.
+-- A piece's bytes in a text.
 abbrev pub written_piece : LinePiece → List ℕ
 written_piece (Kept opener run) = opening opener ++ run
 written_piece (Token token) = option_map_or (λ word. word) (keyword token) []
@@ -30,8 +30,7 @@ crunched_piece (Token token) = token ∷ []
 crunched_piece Question = print_token ∷ []
 crunched_piece (Single byte) = byte ∷ []
 
--- Bytes are these pieces, one after the other, by a relation of the bytes to their first piece and
--- what follows it.
+-- Bytes are these pieces in turn, by a relation of bytes to their first piece and the rest.
 unfoldable pub ArePieces : (List ℕ → LinePiece → List ℕ → Type 0) → List ℕ → List LinePiece → Type 0
 ArePieces Begins bytes [] = bytes ≡ []
 ArePieces Begins bytes (piece ∷ pieces) = (rest : List ℕ) × Begins bytes piece rest × ArePieces Begins rest pieces

@@ -1,16 +1,16 @@
 -- Programs and their files.
 use Rattle.std.specs.Prelude.{◌≡◌, ℕ, ◌+◌, ◌/◌, ◌%◌, ◌^◌, ◌<◌, List, [], ◌∷◌, ◌++◌, length, Contains}
 
--- A line of a program: its number and its bytes.
+-- A line of a program: number and bytes.
 pub record ProgramLine : Type 0 where
   pub number : ℕ
   pub bytes : List ℕ
 
--- A program is a list of lines.
+-- A list of lines.
 abbrev pub Program : Type 0
 Program = List ProgramLine
 
--- A number in two bytes, the low one first.
+-- A number in two bytes, low first.
 abbrev pub word : ℕ → List ℕ
 word n = n % 256 ∷ n / 256 ∷ []
 
@@ -32,8 +32,8 @@ lines_layout at (line ∷ lines) = line_layout at line ++ lines_layout (address_
 abbrev pub layout : ℕ → Program → List ℕ
 layout start program = word start ++ lines_layout start program
 
--- The bytes begin with any link but $00 $00, the line's number, its bytes, and a $00, and go on
--- with the rest.
+-- The bytes begin with any link but $00 $00, the line's number, its bytes and a $00; then comes the
+-- rest.
 pub record BeginsLine (bytes : List ℕ) (line : ProgramLine) (rest : List ℕ) : Type 0 where
   pub low : ℕ
   pub high : ℕ
@@ -42,11 +42,11 @@ pub record BeginsLine (bytes : List ℕ) (line : ProgramLine) (rest : List ℕ) 
   pub number : line.number < 2 ^ 16
   pub no_zero : ¬ (Contains line.bytes 0)
 
--- The bytes read as these lines: line by line, then the end mark, then anything.
+-- The bytes read as these lines, then the end mark, then anything.
 unfoldable pub LinesRead : List ℕ → Program → Type 0
 LinesRead bytes [] = (behind : List ℕ) × (bytes ≡ 0 ∷ 0 ∷ behind)
 LinesRead bytes (line ∷ lines) = (rest : List ℕ) × BeginsLine bytes line rest × LinesRead rest lines
 
--- The file reads as the program: its lines come after any two bytes.
+-- The file reads as the program, after any two bytes.
 unfoldable pub ReadsProgram : List ℕ → Program → Type 0
 ReadsProgram file program = (low high : ℕ) × (lines : List ℕ) × (file ≡ low ∷ high ∷ lines) × LinesRead lines program

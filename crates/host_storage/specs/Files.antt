@@ -4,13 +4,13 @@ use Rattle.std.specs.Ordering.{nat_cmp}
 use Rattle.std.specs.Cmp.Lexicographic.{slice_cmp}
 use Rattle.std.specs.FinMap.{FinMap}
 
--- a host's files: a map from names, as the bytes of their texts, to the files' bytes; a folder is
--- an empty file whose name ends with a slash, as in archives
+-- a host's files: a map from names, as bytes, to the files' bytes; a folder is an empty file whose
+-- name ends with a slash
 abbrev pub Files : Type 0
 Files = FinMap (slice_cmp nat_cmp) (List ℕ)
 
--- what a host exposes: its files, if it exposes them, and how many of its calls failed, up to the
--- greatest number that it can count to
+-- what a host exposes: its files, if it exposes them, and how many of its calls failed, as far as
+-- it can count
 pub record HostState : Type 0 where
   pub files : Option Files
   pub failures : ℕ

@@ -5,7 +5,7 @@ use Rattle.host_storage.specs.Files.{Files}
 use Rattle.host_storage.specs.declared.host.HostFault.{HostFault}
 use Rattle.host_storage.specs.declared.host.HostFault.TheVariants.{Missing, Device, TooLong, Memory}
 
--- the number by which status lines name a fault
+-- a fault's number in status lines
 abbrev pub fault_number : HostFault → ℕ
 fault_number Missing = 1
 fault_number Device = 2
@@ -23,8 +23,7 @@ filled_bytes (Ok done) bytes = Ok bytes.items
 filled_bytes (Err fault) bytes = Err fault
 
 -- what a fetch of a name can return if these are the files: the file, of at most `limit` bytes;
--- that it is not there; that it is longer; and in place of any of these the device's fault or that
--- memory is out
+-- that it is missing, or longer; and in any case the device's fault or out of memory
 abbrev pub FetchesOf : Files → List ℕ → ℕ → Result (List ℕ) HostFault → Type 0
 FetchesOf files name limit (Ok bytes) = (get files name ≡ Some bytes) × (length bytes ≤ limit)
 FetchesOf files name limit (Err Missing) = get files name ≡ None
@@ -32,7 +31,7 @@ FetchesOf files name limit (Err TooLong) = IsSomeAnd (get files name) (λ bytes.
 FetchesOf files name limit (Err Device) = ⊤
 FetchesOf files name limit (Err (Memory error)) = ⊤
 
--- what a fetch can return: if the host exposes no files, a successful one has at most `limit` bytes
+-- what a fetch can return; if no files are exposed, success still has at most `limit` bytes
 abbrev pub Fetches : Option Files → List ℕ → ℕ → Result (List ℕ) HostFault → Type 0
 Fetches (Some files) name limit answer = FetchesOf files name limit answer
 Fetches None name limit (Ok bytes) = length bytes ≤ limit
@@ -64,24 +63,22 @@ IsOfDeviceOrMemory (Memory error) = ⊤
 IsOfDeviceOrMemory Missing = ⊥
 IsOfDeviceOrMemory TooLong = ⊥
 
--- what a store can return, and the host's files after it, if it exposes them: after success only
--- the named file has the new bytes; after an error, the device's fault or that memory is out, no
--- file has changed
+-- what a store can return, and the files after it, if exposed: after success only the named file
+-- has new bytes; after a fault, which is the device's or out of memory, no file has changed
 abbrev pub Stores : {A : Type 0} → Option Files → List ℕ → List ℕ → Result A HostFault → Option Files → Type 0
 Stores files name bytes (Ok done) after = after ≡ option_map (λ all. insert all name bytes) files
 Stores files name bytes (Err fault) after = (after ≡ files) × IsOfDeviceOrMemory fault
 
--- a count of failures with one more, up to the greatest number of 64 bits
+-- a count of failures with one more, up to the greatest of 64 bits
 abbrev pub one_more_failure : ℕ → ℕ
 one_more_failure count = min (count + 1) (2 ^ 64 - 1)
 
--- the count of failures after a call: the device's fault adds one, and nothing else does
+-- the count after a call: only the device's fault adds one
 abbrev pub failures_after : {A : Type 0} → ℕ → Result A HostFault → ℕ
 failures_after count (Err Device) = one_more_failure count
 failures_after count answer = count
 
--- the count of failures never falls, and rises by one exactly if the device's fault is returned, up
--- to its greatest value
+-- the count rises by one exactly for the device's fault, up to its greatest value
 abbrev pub CountsDevice : {A : Type 0} → ℕ → ℕ → Result A HostFault → Type 0
 CountsDevice before after answer = after ≡ failures_after before answer
 

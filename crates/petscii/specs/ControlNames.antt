@@ -1,7 +1,7 @@
 -- The control codes that have a name in the text form.
 use Rattle.std.specs.Prelude.{ℕ, List, [], ◌∷◌, Option, Some, None, ◌==◌, if◌then◌else◌, codes}
 
--- The control codes of the machine, each with the name that stands for it in braces.
+-- The machine's control codes, each with its name in braces.
 unfoldable pub control_names : List (ℕ × List ℕ)
 control_names =
     (0x05, codes "wht") ∷ (0x0e, codes "swlc") ∷ (0x11, codes "down") ∷ (0x12, codes "rvon")
@@ -12,7 +12,7 @@ control_names =
     ∷ (0x98, codes "gry2") ∷ (0x99, codes "lgrn") ∷ (0x9a, codes "lblu") ∷ (0x9b, codes "gry3")
     ∷ (0x9c, codes "pur") ∷ (0x9d, codes "left") ∷ (0x9e, codes "yel") ∷ (0x9f, codes "cyn") ∷ []
 
--- The name in the first row that has a code.
+-- The name in the first row of a code.
 abbrev pub control_name_in : List (ℕ × List ℕ) → ℕ → Option (List ℕ)
 control_name_in [] code = None
 control_name_in (row ∷ rows) code = if code == row.0 then Some row.1 else control_name_in rows code

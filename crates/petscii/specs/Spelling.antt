@@ -4,8 +4,8 @@ use Rattle.std.specs.Option.{option_map_or}
 use Rattle.std.specs.List.{flat_map}
 use Rattle.petscii.specs.ControlNames.{control_name}
 
--- The bytes that have a character of their own: the first and the last byte of a range, and the
--- character of the first. The others of the range have the characters that follow.
+-- The bytes that have a character: the first and the last byte of a range, and the character of the
+-- first. The others follow on.
 unfoldable pub character_ranges : List (ℕ × ℕ × ℕ)
 character_ranges =
     (0x20, 0x40, slice_index (codes " ") 0)
@@ -36,11 +36,11 @@ hex_digit n = slice_index (codes "0123456789abcdef") n
 abbrev pub dollar : ℕ
 dollar = 36
 
--- The name of a byte by its value: `$` and two hexadecimal digits.
+-- A byte's name by its value: `$` and two hexadecimal digits.
 abbrev pub hex_name : ℕ → List ℕ
 hex_name b = dollar ∷ hex_digit (b / 16) ∷ hex_digit (b % 16) ∷ []
 
--- The text of a byte: its character, else the name of the control code, else its value.
+-- A byte's text: its character, else its control code's name, else its value.
 unfoldable pub spell : ℕ → List ℕ
 spell b = option_map_or (λ c. c ∷ []) (character b) (braced_name (option_map_or (λ name. name) (control_name b) (hex_name b)))
 

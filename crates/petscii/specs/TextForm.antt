@@ -24,12 +24,12 @@ pub record IsOneByte (unit : List ℕ) : Type 0 where
   pub is : unit ≡ byte ∷ []
   pub no_brace : byte ≢ open_brace
 
--- A text is a sequence of units: a `{` up to the next `}`, or one byte.
+-- A unit of a text: one byte, or a `{` up to the next `}`.
 abbrev pub IsUnit : List ℕ → Type 0
 IsUnit unit = IsOneByte unit ⊎ IsBraced unit
 
--- A unit is accepted for a byte if it is its spelling, or in braces its spelling or its value, in
--- either case of the letters.
+-- A unit is accepted for a byte: its spelling, or in braces its spelling or value, in either case
+-- of letters.
 unfoldable pub IsAccepted : ℕ → List ℕ → Type 0
 IsAccepted b unit = (b < 256) × ((unit ≡ spell b)
     ⊎ (IsBraced unit × ((str_to_ascii_lowercase unit ≡ spell b) ⊎ (str_to_ascii_lowercase unit ≡ braced_name (hex_name b)))))
@@ -38,7 +38,7 @@ IsAccepted b unit = (b < 256) × ((unit ≡ spell b)
 unfoldable pub Names : List ℕ → ℕ → Type 0
 Names name b = (b < 256) × ((control_name b ≡ Some name) ⊎ (hex_name b ≡ name))
 
--- The text begins with a unit that stands for a byte, and goes on with the rest.
+-- The text begins with a unit for a byte, then comes the rest.
 pub record BeginsWith (text : List ℕ) (b : ℕ) (rest : List ℕ) : Type 0 where
   pub unit : List ℕ
   pub is_unit : IsUnit unit

@@ -11,7 +11,7 @@ pub record Reading : Type 0 where
 abbrev pub reading_of : ℕ → ℕ → Bool → Reading
 reading_of reads came has_failed = record { reads = reads; came = came; has_failed = has_failed }
 
--- the most bytes that are taken of an input, or of a file that the program reads
+-- the most bytes of an input, or of a file that the program reads
 abbrev pub input_limit : ℕ
 input_limit = 16777216
 

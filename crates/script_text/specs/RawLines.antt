@@ -4,14 +4,14 @@ use Rattle.std.specs.List.{onto_first}
 use Rattle.std.specs.Option.{option_map_or}
 use Rattle.std.specs.Io.BufRead.{ends_with_byte, strip_last}
 
--- the byte that ends a line, and the one that can come right before it
+-- what ends a line, and what can come right before it
 abbrev pub line_feed : ℕ
 line_feed = 10
 
 abbrev pub carriage_return : ℕ
 carriage_return = 13
 
--- the raw lines of a script, each with the LF that ends it, except that the last one may have no LF
+-- the raw lines of a script, each with its LF, which the last may lack
 unfoldable pub lines_of : List ℕ → List (List ℕ)
 lines_of [] = []
 lines_of (byte ∷ rest) = if byte == line_feed then (byte ∷ []) ∷ lines_of rest else onto_first byte (lines_of rest)
@@ -20,26 +20,26 @@ lines_of (byte ∷ rest) = if byte == line_feed then (byte ∷ []) ∷ lines_of 
 abbrev pub is_ended : List ℕ → Bool
 is_ended line = ends_with_byte line_feed line
 
--- the lines of a script that have an LF: all, or all but the last
+-- the lines of a script that have an LF
 abbrev pub ended_lines : List ℕ → List (List ℕ)
 ended_lines script = filter is_ended (lines_of script)
 
--- the part of the line before its LF, or all of a line without one
+-- the line before its LF, or all of it
 abbrev pub before_end : List ℕ → List ℕ
 before_end line = strip_last line_feed line
 
--- the text of the line: without its LF, and without one CR right before it
+-- the line without its LF and one CR right before it
 abbrev pub text_of : List ℕ → List ℕ
 text_of line = if is_ended line then strip_last carriage_return (before_end line) else line
 
--- the most bytes that a line has before its LF
+-- the most bytes of a line before its LF
 abbrev pub line_limit : ℕ
 line_limit = 1024
 
--- whether the line has more bytes than that before its LF, including a CR
+-- whether a line has more, a CR included
 abbrev pub is_too_long : List ℕ → Bool
 is_too_long line = nat_lt line_limit (length (before_end line))
 
--- whether the text has no command: it has only spaces, or its first byte after spaces is `;`
+-- whether a text has no command: only spaces, or a `;` first after them
 abbrev pub is_skipped : List ℕ → Bool
 is_skipped text = option_map_or (λ byte. byte == 59) (find (λ byte. not (byte == 32)) text) true

@@ -4,7 +4,7 @@ use Rattle.std.specs.Fmt.{decimal}
 use Rattle.script_text.specs.declared.status.Status.{Status}
 use Rattle.script_text.specs.declared.status.Status.TheVariants.{Done, FilesScratched, SyntaxError, UnknownCommand, LongLine, BadName, MissingWord, WriteFileOpen, FileNotFound, FileExists, FileTypeMismatch, IllegalBlock, DirectoryError, DiskFull, HostFile, NothingToUndo, NothingToRedo, NotOneBlock, BasicText, NotBasic, FileLost, OutOfMemory}
 
--- the number and the text of a status
+-- a status's number and text
 abbrev pub status_row : Status → ℕ × List ℕ
 status_row Done = (0, codes " OK")
 status_row (FilesScratched count) = (1, codes "FILES SCRATCHED")
@@ -29,7 +29,7 @@ status_row (NotBasic fault) = (85, codes "NOT BASIC")
 status_row FileLost = (86, codes "FILE LOST")
 status_row OutOfMemory = (90, codes "OUT OF MEMORY")
 
--- the two numbers in the last columns of a status line
+-- the last two numbers of a status line
 abbrev pub status_details : Status → ℕ × ℕ
 status_details (FilesScratched count) = (count, 0)
 status_details (IllegalBlock track sector) = (track, sector)
@@ -43,7 +43,7 @@ status_details _ = (0, 0)
 unfoldable pub two_digits : ℕ → List ℕ
 two_digits n = (if nat_lt n 10 then codes "0" else []) ++ decimal n
 
--- the line of a status, with the line feed at its end
+-- the line of a status, with its LF
 unfoldable pub status_line : Status → List ℕ
 status_line status =
     two_digits (status_row status).0 ++ codes "," ++ (status_row status).1

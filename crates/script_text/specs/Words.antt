@@ -17,38 +17,36 @@ IsPrintable b = (32 ≤ b) × (b < 127)
 abbrev pub is_printable : ℕ → Bool
 is_printable b = nat_le 32 b && nat_lt b 127
 
--- whether a byte is a quote
 abbrev pub is_quote : ℕ → Bool
 is_quote b = b == quote
 
--- whether a byte ends a run: a space or a quote
+-- a space or a quote ends a run
 abbrev pub ends_run : ℕ → Bool
 ends_run b = b == space || b == quote
 
--- whether a word can end before the rest of a line: before a space or at the line's end
+-- whether a word can end here: before a space or the line's end
 abbrev pub ends_word : List ℕ → Bool
 ends_word [] = true
 ends_word (b ∷ _) = b == space
 
--- a word and the rest of the line, if the word can end before that rest
+-- a word and the rest of the line, if the word can end there
 abbrev pub word_before : List ℕ → List ℕ → Option (List ℕ × List ℕ)
 word_before word rest = if ends_word rest then Some (word, rest) else None
 
--- the word after an opening quote, up to the next quote, and the rest of the line
+-- the word up to the next quote, and the rest of the line
 unfoldable pub quoted_word : List ℕ → Option (List ℕ × List ℕ)
 quoted_word text = option_and_then (λ end. word_before (take end text) (drop (end + 1) text)) (position is_quote text)
 
--- the run of bytes other than spaces and quotes with which a text begins, and the rest of the line
+-- the word up to a space or quote, and the rest of the line
 unfoldable pub bare_word : List ℕ → Option (List ℕ × List ℕ)
 bare_word text = let end = position_or_len ends_run text in word_before (take end text) (drop end text)
 
--- the word with which a text begins, and the rest of the line; None if a quote is misplaced
+-- a text's first word, and the rest; None if a quote is misplaced
 abbrev pub first_word : List ℕ → Option (List ℕ × List ℕ)
 first_word [] = None
 first_word (b ∷ rest) = if b == quote then quoted_word rest else bare_word (b ∷ rest)
 
--- the words of a text of at most n bytes: spaces are skipped, a word is taken, and then the words
--- of the rest
+-- the words of a text of at most n bytes, with the spaces skipped
 abbrev pub words_within : ℕ → List ℕ → Option (List (List ℕ))
 words_within size [] = Some []
 words_within zero (b ∷ rest) = None
@@ -56,7 +54,7 @@ words_within (suc size) (b ∷ rest) =
     if b == space then words_within size rest
     else option_and_then (λ first. option_map (λ more. first.0 ∷ more) (words_within size first.1)) (first_word (b ∷ rest))
 
--- the words of a text in order; None if a quote is misplaced
+-- the words of a text; None if a quote is misplaced
 unfoldable pub split_words : List ℕ → Option (List (List ℕ))
 split_words text = words_within (length text) text
 
@@ -64,7 +62,7 @@ split_words text = words_within (length text) text
 abbrev pub words_left : List ℕ → List (List ℕ)
 words_left text = unwrap_or (split_words text) []
 
--- the words of a line; None if a byte is not printable or a quote is misplaced
+-- the words of a line; None also if a byte isn't printable
 unfoldable pub words_of_line : List ℕ → Option (List (List ℕ))
 words_of_line line = if list_all is_printable line then split_words line else None
 
