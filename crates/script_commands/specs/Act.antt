@@ -13,7 +13,7 @@ use Rattle.script_text.specs.Status.{status_line}
 use Rattle.script_text.specs.declared.status.Status.{Status}
 use Rattle.script_text.specs.declared.status.Status.TheVariants.{BadName, HostFile, OutOfMemory}
 
--- the response to a line: its output, its status, and whether it ends the run
+-- the response to a line: output, status, and whether it ends the run
 pub record LineAnswer : Type 0 where
   pub output : Bytes
   pub status : Status
@@ -23,11 +23,11 @@ pub record LineAnswer : Type 0 where
 abbrev pub plain_answer : Status → LineAnswer
 plain_answer status = record { output = []; status = status; closes = false }
 
--- what a response prints: its output, and then its status line
+-- a response's output, then its status line
 abbrev pub printed_bytes : LineAnswer → Bytes
 printed_bytes answer = answer.output ++ status_line answer.status
 
--- what the script works on: the host and the history
+-- what the script works on: host and history
 pub record World : Type 0 where
   pub host : HostState
   pub history : History
@@ -35,13 +35,13 @@ pub record World : Type 0 where
 abbrev pub world_of : HostState → History → World
 world_of host history = record { host = host; history = history }
 
--- a call that can fail, whatever the session is; it gives bytes
+-- a call, which gives bytes or fails, whatever the session is
 pub data Call : Type 0 where
-  -- the bytes that an argument stands for in text form, if they pass a test
+  -- the bytes of an argument in text form, if they pass a test
   Text : (Bytes → Bool) → Bytes → Call
   -- a host file of at most n bytes
   Fetch : Bytes → ℕ → Call
-  -- bytes stored under a name of the host; what it gives does not matter
+  -- bytes stored under a name of the host; it gives no bytes
   Store : Bytes → Bytes → Call
   -- the program file of a BASIC text
   Crunch : Bytes → Call
@@ -50,8 +50,7 @@ pub data Call : Type 0 where
   -- room for what comes next; it gives no bytes
   Room : Call
 
--- an act: it gives a value, or is refused with a status, or makes a call first and goes on with
--- what that gives
+-- an act gives a value, is refused with a status, or makes a call and goes on with what that gives
 pub data Act (A : Type 0) : Type 0 where
   Give : A → Act A
   Refuse : Status → Act A
@@ -69,12 +68,12 @@ infixl 10 ◌>>◌
 abbrev pub ◌>>◌ : {A B : Type 0} → Act A → Act B → Act B
 act >> next = act >>= (λ _. next)
 
--- the value that was read, or the refusal of its first fault
+-- the value that was read, or the refusal of its fault
 abbrev pub value_or_refusal : {A : Type 0} → Result A Status → Act A
 value_or_refusal (Ok value) = Give value
 value_or_refusal (Err status) = Refuse status
 
--- refused with a status unless a test passes
+-- refused unless a test passes
 abbrev pub need : Bool → Status → Act (Unit {0})
 need test status = if test then Give tt else Refuse status
 
@@ -82,7 +81,7 @@ need test status = if test then Give tt else Refuse status
 abbrev pub ask : Call → Act Bytes
 ask what = Then what Give
 
--- the bytes that arguments stand for in text form, from left to right
+-- the bytes of arguments in text form, from left to right
 abbrev pub each_text : (Bytes → Bool) → List Bytes → Act (List Bytes)
 each_text test [] = Give []
 each_text test (word ∷ words) = do
@@ -90,24 +89,23 @@ each_text test (word ∷ words) = do
   more ← each_text test words
   Give (bytes ∷ more)
 
--- the end of an accepted line: its response, and the history after it
+-- the response to an accepted line, and the history after it
 pub record Ending : Type 0 where
   pub answer : LineAnswer
   pub history : History
 
--- an argument stands for bytes in text form, and they pass a test
+-- an argument is the text form of bytes that pass a test
 abbrev pub IsSpelled : (Bytes → Bool) → Bytes → Bytes → Type 0
 IsSpelled test word bytes = IsTextOf bytes word × (test bytes ≡ true)
 
--- what a host can return for a fetch, and what it exposes then; whatever it exposes of its files, a
--- file is made of bytes
+-- what a host can return for a fetch, always bytes, and what it exposes then
 pub record FetchesFile (old : HostState) (name : Bytes) (limit : ℕ) (fetched : Result Bytes HostFault) (new : HostState) : Type 0 where
   pub answer : Fetches old.files name limit fetched
   pub bytes : IfOk fetched AreBytes
   pub counted : CountsDevice old.failures new.failures fetched
   pub kept : new.files ≡ old.files
 
--- what a host can return for a store, and what it exposes then
+-- the same for a store
 pub record StoresFile (old : HostState) (name bytes : Bytes) (stored : Result (Unit {0}) HostFault) (new : HostState) : Type 0 where
   pub answer : Stores old.files name bytes stored new.files
   pub counted : CountsDevice old.failures new.failures stored
@@ -117,7 +115,7 @@ abbrev pub status_of_fault : HostFault → Status
 status_of_fault (Memory error) = OutOfMemory
 status_of_fault fault = HostFile (fault_number fault)
 
--- what the host gave, or the status of its fault
+-- what the host gave, or its fault's status
 abbrev pub bytes_given : {A : Type 0} → (A → Bytes) → Result A HostFault → Result Bytes Status
 bytes_given bytes (Ok value) = Ok (bytes value)
 bytes_given bytes (Err fault) = Err (status_of_fault fault)
@@ -134,8 +132,7 @@ CallGives (Crunch text) old given new = Crunches text given × (new ≡ old)
 CallGives (Expand file) old given new = Expands file given × (new ≡ old)
 CallGives Room old given new = (given ≡ Ok []) × (new ≡ old)
 
--- an act of a line is done: from a world, with a response, to a world. Before each call memory may
--- be out
+-- an act of a line from one world to another, with a response; before each call memory may be out
 unfoldable pub Does : Act Ending → World → LineAnswer → World → Type 0
 Does (Give ending) world answer after = (answer ≡ ending.answer) × (after ≡ record world { history = ending.history })
 Does (Refuse status) world answer after = (answer ≡ plain_answer status) × (after ≡ world)

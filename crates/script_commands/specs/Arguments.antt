@@ -15,7 +15,7 @@ use Rattle.script_text.specs.Number.{number_of}
 use Rattle.script_text.specs.declared.status.Status.{Status}
 use Rattle.script_text.specs.declared.status.Status.TheVariants.{SyntaxError, BadName, IllegalBlock, OutOfMemory}
 
--- the name of a host file: an argument of 1 to 255 bytes
+-- the name of a host file: 1 to 255 bytes
 unfoldable pub host_in : Bytes → Result Bytes Status
 host_in word = if nat_lt 0 (length word) && nat_le (length word) 255 then Ok word else Err BadName
 
@@ -23,13 +23,13 @@ host_in word = if nat_lt 0 (length word) && nat_le (length word) 255 then Ok wor
 unfoldable pub number_in : Bytes → Result ℕ Status
 number_in word = ok_or (number_of word) SyntaxError
 
--- the block of a track and a sector, if both are numbers and the image has that block
+-- the block of a track and sector, if both are numbers and the image has it
 abbrev pub block_by : Disk → Result ℕ Status → Result ℕ Status → Result ℕ Status
 block_by image (Err status) sector = Err status
 block_by image (Ok track) (Err status) = Err status
 block_by image (Ok track) (Ok sector) = ok_or (chains.block_in image track sector) (IllegalBlock track sector)
 
--- the block of an image at a track and a sector, each in an argument
+-- the same of two arguments
 unfoldable pub block_argument : Disk → Bytes → Bytes → Result ℕ Status
 block_argument image track sector = block_by image (number_in track) (number_in sector)
 
@@ -42,36 +42,35 @@ status_of_text fault = BadName
 unfoldable pub at_comma : Bytes → Option (Bytes × Bytes)
 at_comma word = option_map (λ place. (take place word, drop (place + 1) word)) (position (λ byte. byte == 44) word)
 
--- whether bytes can be the id of a disk: two, both allowed in names
+-- whether bytes can be a disk's id: two, both allowed in names
 abbrev pub can_be_id : Bytes → Bool
 can_be_id bytes = (length bytes == 2) && not (holds_any_of forbidden_in_names bytes)
 
--- the letters that stand for kinds
+-- the kinds by their letters
 abbrev pub letters_of_kinds : List (Bytes × Kind)
 letters_of_kinds = (codes "p", Prg) ∷ (codes "s", Seq) ∷ (codes "u", Usr) ∷ (codes "l", Rel) ∷ []
 
--- the kind that a letter stands for
+-- the kind of a letter
 abbrev pub kind_of_letter : Bytes → Option Kind
 kind_of_letter word = option_map (λ row. row.1) (find (λ row. bytes_eq word row.0) letters_of_kinds)
 
--- a name and a kind of the two parts of an argument: a name, and the letter of a kind
+-- a name, and the kind of a letter; PRG without one
 abbrev pub with_kind : Bytes → Option (Bytes × Bytes) → Result (Bytes × Kind) Status
 with_kind word None = Ok (word, Prg)
 with_kind word (Some parts) = ok_or (option_map (λ kind. (parts.0, kind)) (kind_of_letter parts.1)) SyntaxError
 
--- a name and a kind in an argument that may be split at its first comma; PRG if it isn't
+-- a name, and a kind after the first comma; PRG without one
 abbrev pub name_and_kind_in : Bytes → Result (Bytes × Kind) Status
 name_and_kind_in word = with_kind word (at_comma word)
 
--- the part of an argument after its last `/`, or all of it
+-- what follows an argument's last `/`, or all of it
 unfoldable pub after_slash : Bytes → Bytes
 after_slash word = after_last (λ byte. byte == 47) word
 
--- the argument that names a new file, or by default the name of its host file without folders
+-- a new file's name: an argument, or by default its host file's without folders
 abbrev pub name_word : Bytes → Option Bytes → Bytes
 name_word host word = unwrap_or word (after_slash host)
 
--- the name and the kind of a new file, by its argument, or by default the host file's own name and
--- PRG
+-- a new file's name and kind, by its argument, or by default its host file's own name and PRG
 abbrev pub name_and_kind_of : Bytes → Option Bytes → Result (Bytes × Kind) Status
 name_and_kind_of host word = option_map_or name_and_kind_in word (Ok (after_slash host, Prg))

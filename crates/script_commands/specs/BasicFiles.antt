@@ -12,11 +12,11 @@ use Rattle.cbm_text.specs.declared.fault.ListFault.TheVariants.{Memory}
 use Rattle.script_text.specs.declared.status.Status.{Status}
 use Rattle.script_text.specs.declared.status.Status.TheVariants.{BasicText, NotBasic, OutOfMemory}
 
--- the place of a BASIC program in the machine's memory
+-- a BASIC program's place in memory
 abbrev pub program_start : ℕ
 program_start = 0x0801
 
--- the status of a fault of a BASIC text: its number and its line
+-- the status of a BASIC text's fault, with its number and line
 abbrev pub status_of_basic : BasicFault → Status
 status_of_basic fault = option_map_or (λ line. BasicText (texts.basic_fault_number fault) line) (texts.basic_fault_line fault) OutOfMemory
 
@@ -25,12 +25,12 @@ abbrev pub status_of_listing : ListFault → Status
 status_of_listing (Memory error) = OutOfMemory
 status_of_listing fault = NotBasic (list_fault_number fault)
 
--- a BASIC text gives its program file, or is refused for its first fault
+-- a BASIC text gives its program file, or its first fault
 abbrev pub Crunches : Bytes → Result Bytes Status → Type 0
 Crunches text (Ok file) = texts.IsFileOf program_start text file
 Crunches text (Err status) = (fault : BasicFault) × texts.IsFirstBasicFault program_start text fault × (status ≡ status_of_basic fault)
 
--- a program file gives its text, or is refused for its fault
+-- a program file gives its text, or its fault
 abbrev pub Expands : Bytes → Result Bytes Status → Type 0
 Expands file (Ok text) = Lists file text
 Expands file (Err status) = (fault : ListFault) × ListsNot file fault × (status ≡ status_of_listing fault)

@@ -5,8 +5,7 @@ use Rattle.d64_image.specs.Disk.{Bytes}
 use Rattle.petscii.specs.Spelling.{spelling}
 use Rattle.script_text.specs.RawLines.{carriage_return}
 
--- the lines of a text, each without the carriage return at its end, except that the last may have
--- none
+-- the lines of a text, each without its carriage return, which the last may lack
 abbrev pub lines_of_file : Bytes → List Bytes
 lines_of_file [] = []
 lines_of_file (byte ∷ rest) = if byte == carriage_return then [] ∷ lines_of_file rest else onto_first byte (lines_of_file rest)

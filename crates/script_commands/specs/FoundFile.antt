@@ -7,7 +7,7 @@ use Rattle.d64_files.specs.Directory.{slots, first_named}
 use Rattle.d64_files.specs.Reading.{content_at}
 use Rattle.d64_dos.specs.Reading.{name_at}
 
--- the name of the first used slot whose name the pattern matches; empty if there is no such slot
+-- the name of the first used slot that the pattern matches, or empty
 abbrev pub found_name : Disk → Bytes → Bytes
 found_name image pattern = option_map_or (name_at image) (first_named pattern (slots image)) []
 
@@ -19,7 +19,7 @@ found_content image pattern = option_map_or (content_at image) (first_named patt
 abbrev pub path_separator : ℕ
 path_separator = 47
 
--- whether a text can name a host file: it is not empty, neither `.` nor `..`, and without a `/`
+-- whether a text can name a host file: not empty, not `.` or `..`, and without `/`
 unfoldable pub can_name_file : Bytes → Bool
 can_name_file text =
     nat_lt 0 (length text) && not (bytes_eq text (codes ".")) && not (bytes_eq text (codes "..")) && not (list_any (λ byte. byte == path_separator) text)

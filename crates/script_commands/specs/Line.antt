@@ -33,7 +33,6 @@ use Rattle.d64_dos.specs.declared.refusal.Refusal.TheVariants as refusals
 use Rattle.script_text.specs.declared.status.Status.{Status}
 use Rattle.script_text.specs.declared.status.Status.TheVariants.{Done, FilesScratched, SyntaxError, UnknownCommand, LongLine, BadName, MissingWord, WriteFileOpen, FileNotFound, FileExists, FileTypeMismatch, DirectoryError, DiskFull, NothingToUndo, NothingToRedo, NotOneBlock, FileLost, OutOfMemory}
 
--- the status of a refusal of a command
 abbrev pub status_of_refusal : Refusal → Status
 status_of_refusal refusals.NotClosed = WriteFileOpen
 status_of_refusal refusals.NotFound = FileNotFound
@@ -44,7 +43,6 @@ status_of_refusal refusals.Lost = FileLost
 status_of_refusal refusals.DiskFull = DiskFull
 status_of_refusal refusals.Memory = OutOfMemory
 
--- the status of a reply to a command
 abbrev pub status_of_reply : Reply → Status
 status_of_reply replies.Done = Done
 status_of_reply (replies.Scratched count) = FilesScratched count
@@ -54,21 +52,21 @@ abbrev pub refuse_by : Option Refusal → Act (Unit {0})
 refuse_by None = Give tt
 refuse_by (Some refusal) = Refuse (status_of_refusal refusal)
 
--- the line is accepted: it shows an output, and the history stays
+-- accepts the line, and shows an output
 abbrev pub show : Bytes → History → Act Ending
 show output history = Give (record { answer = record (plain_answer Done) { output = output }; history = history })
 
--- the line is accepted: it shows nothing, and leaves a history
+-- accepts the line, and leaves a history
 abbrev pub leave : History → Act Ending
 leave history = Give (record { answer = plain_answer Done; history = history })
 
--- the line is accepted once bytes are stored under a name of the host, and the history stays
+-- accepts the line once bytes are stored under a name of the host
 abbrev pub put : History → Bytes → Bytes → Act Ending
 put history name bytes = do
   ask (Store name bytes)
   leave history
 
--- a command given to the session: its first refusal, or its reply and one image more
+-- a command given to the session: its first refusal, or its reply and one more image
 abbrev pub run : History → Change → Act Ending
 run history change = do
   refuse_by (refusal_of (present_image history) change)
@@ -88,7 +86,7 @@ block_read_act history (host, (track, sector)) = do
   block ← value_or_refusal (block_argument (present_image history) track sector)
   put history name (sector_at (present_image history) block)
 
--- the most bytes that a command accepts of a host file
+-- the most bytes of a host file that a command takes
 abbrev pub host_file_limit : ℕ
 host_file_limit = 1048576
 
@@ -112,8 +110,7 @@ write_program history name text = do
   file ← ask (Crunch text)
   run history (changes.Write name Prg file)
 
--- `crunch`: writes a BASIC text of the host to the disk as a program, under the name in an
--- argument, or by default under its own
+-- `crunch`: writes a BASIC text of the host as a program, by default under its own name
 abbrev pub crunch_act : History → Bytes × Option Bytes → Act Ending
 crunch_act history (host, word) = do
   source ← value_or_refusal (host_in host)
@@ -127,7 +124,7 @@ delete_act history words = do
   patterns ← each_text is_pattern words
   run history (changes.Delete patterns)
 
--- `format`: makes the disk an empty one, with the name and the id in one argument
+-- `format`: makes the disk an empty one, with the name and id in one argument
 abbrev pub format_act : History → Bytes → Act Ending
 format_act history word = do
   parts ← value_or_refusal (ok_or (at_comma word) SyntaxError)
@@ -141,7 +138,7 @@ history_act history = do
   ask Room
   show (history_text history) history
 
--- `keep`: stores the session, the history with its cursor, in a host file
+-- `keep`: stores the session in a host file
 abbrev pub keep_act : History → Bytes → Act Ending
 keep_act history host = do
   name ← value_or_refusal (host_in host)
@@ -162,7 +159,7 @@ show_program history pattern = do
   listing ← ask (Expand (found_content (present_image history) pattern))
   show listing history
 
--- `name`: gives the disk another name, and another id if the argument has one after a comma
+-- `name`: gives the disk another name, and another id if one follows a comma
 abbrev pub name_parts : History → Bytes → Option (Bytes × Bytes) → Act Ending
 name_parts history word None = do
   name ← ask (Text is_name word)
@@ -175,7 +172,7 @@ name_parts history word (Some parts) = do
 abbrev pub name_act : History → Bytes → Act Ending
 name_act history word = name_parts history word (at_comma word)
 
--- `petcat`: shows a BASIC program of the disk as text
+-- `petcat`: shows a BASIC program as text
 abbrev pub petcat_act : History → Bytes → Act Ending
 petcat_act history name = do
   pattern ← ask (Text is_pattern name)
@@ -185,8 +182,7 @@ petcat_act history name = do
 abbrev pub quit_act : History → Act Ending
 quit_act history = Give (record { answer = record (plain_answer Done) { closes = true }; history = history })
 
--- stores the file that a pattern finds in the host file of an argument, or by default in that of
--- its own name in text form
+-- stores the file that a pattern finds in a host file, by default under its own name in text form
 abbrev pub read_to : History → Bytes → Option Bytes → Act Ending
 read_to history pattern None = do
   refuse_by (read_refusal (present_image history) pattern)
@@ -198,7 +194,7 @@ read_to history pattern (Some host) = do
   refuse_by (read_refusal (present_image history) pattern)
   put history name (found_content (present_image history) pattern)
 
--- `read`: stores a file of the disk in a host file
+-- `read`: stores a file in a host file
 abbrev pub read_act : History → Bytes × Option Bytes → Act Ending
 read_act history (name, host) = do
   pattern ← ask (Text is_pattern name)
@@ -210,14 +206,14 @@ redo_act history = do
   need (nat_lt (history.cursor + 1) (length history.images)) NothingToRedo
   leave (redone_history history)
 
--- `rename`: gives a file with one name another
+-- `rename`: gives a file another name
 abbrev pub rename_act : History → Bytes × Bytes → Act Ending
 rename_act history (old_word, new_word) = do
   old ← ask (Text is_name old_word)
   new ← ask (Text is_name new_word)
   run history (changes.Rename old new)
 
--- `save`: stores the image in a host file, by default in its own, if it has one
+-- `save`: stores the image in a host file, by default its own
 abbrev pub save_act : Option Bytes → History → Option Bytes → Act Ending
 save_act None history None = Refuse MissingWord
 save_act (Some home) history None = put history home (bytes_of (present_image history))
@@ -232,13 +228,13 @@ show_file history pattern = do
   ask Room
   show (typed_text (found_content (present_image history) pattern)) history
 
--- `type`: shows a text of the disk
+-- `type`: shows a file as text
 abbrev pub type_act : History → Bytes → Act Ending
 type_act history name = do
   pattern ← ask (Text is_pattern name)
   show_file history pattern
 
--- `undelete`: brings back a deleted file, by the name and the kind in an argument
+-- `undelete`: brings back a deleted file, by its name and kind
 abbrev pub undelete_act : History → Bytes → Act Ending
 undelete_act history word = do
   file ← value_or_refusal (name_and_kind_in word)
@@ -255,8 +251,7 @@ undo_act history = do
 abbrev pub validate_act : History → Act Ending
 validate_act history = run history changes.Validate
 
--- `write`: writes a host file to the disk, under the name and with the kind in an argument, or by
--- default under its own name and as PRG
+-- `write`: writes a host file to the disk, by default under its own name and as PRG
 abbrev pub write_act : History → Bytes × Option Bytes → Act Ending
 write_act history (host, word) = do
   source ← value_or_refusal (host_in host)
@@ -265,7 +260,7 @@ write_act history (host, word) = do
   bytes ← ask (Fetch source host_file_limit)
   run history (changes.Write name file.1 bytes)
 
--- the commands that take no arguments, each with its name and its act
+-- the commands without arguments, each with its name and act
 abbrev pub lone_commands : History → List (Bytes × Act Ending)
 lone_commands history =
     (codes "history", history_act history)
@@ -280,8 +275,7 @@ lone_commands history =
 abbrev pub after_no_word : List Bytes → Act Ending → Act Ending
 after_no_word words act = no_word words >> act
 
--- the other commands that do not use the host, each with its name, how many arguments it takes, and
--- its act
+-- the others that don't use the host, each with its name, how many arguments it takes, and its act
 abbrev pub disk_commands : History → List Bytes → List (Bytes × Act Ending)
 disk_commands history words =
     (codes "block", word_and one_word words >>= block_act history)
@@ -294,7 +288,7 @@ disk_commands history words =
     ∷ (codes "undelete", one_word words >>= undelete_act history)
     ∷ []
 
--- the commands that take a file from the host to the disk or back
+-- those that take a file from the host to the disk or back
 abbrev pub file_commands : History → List Bytes → List (Bytes × Act Ending)
 file_commands history words =
     (codes "crunch", word_and at_most_one words >>= crunch_act history)
@@ -302,7 +296,7 @@ file_commands history words =
     ∷ (codes "write", word_and at_most_one words >>= write_act history)
     ∷ []
 
--- the commands that fetch or store a block, the image or the session
+-- those that fetch or store a block, the image or the session
 abbrev pub host_commands : Option Bytes → History → List Bytes → List (Bytes × Act Ending)
 host_commands home history words =
     (codes "bread", word_and (word_and one_word) words >>= block_read_act history)
@@ -311,16 +305,15 @@ host_commands home history words =
     ∷ (codes "save", at_most_one words >>= save_act home history)
     ∷ []
 
--- all commands
 abbrev pub commands : Option Bytes → History → List Bytes → List (Bytes × Act Ending)
 commands home history words =
     map (λ row. (row.0, after_no_word words row.1)) (lone_commands history) ++ disk_commands history words ++ file_commands history words ++ host_commands home history words
 
--- the row of a command in a table
+-- a command's row in a table
 abbrev pub row_of : Bytes → List (Bytes × Act Ending) → Option (Bytes × Act Ending)
 row_of command rows = find (λ row. bytes_eq command row.0) rows
 
--- the act of a command of a table
+-- a command's act by a table
 abbrev pub act_in : List (Bytes × Act Ending) → Bytes → Act Ending
 act_in rows command = option_map_or (λ row. row.1) (row_of command rows) (Refuse UnknownCommand)
 
@@ -335,7 +328,7 @@ act_of_text home history line = do
   words ← value_or_refusal (ok_or (words_of_line line) SyntaxError)
   act_of_words home history words
 
--- the act of a line of the script; None if it is skipped
+-- the act of a line; None if it is skipped
 unfoldable pub act_of_line : Option Bytes → History → Bytes → Option (Act Ending)
 act_of_line home history line =
     if is_too_long line then Some (Refuse LongLine)

@@ -8,11 +8,11 @@ use Rattle.d64_dos.specs.Listing.{RowView, ListingView}
 use Rattle.d64_files.specs.declared.kind.Kind.{Kind}
 use Rattle.d64_files.specs.declared.kind.Kind.TheVariants.{Del, Seq, Prg, Usr, Rel}
 
--- a text filled with spaces up to a number of places; a longer one stays as it is
+-- a text filled with spaces to a number of places, if it is shorter
 abbrev pub padded_text : ℕ → Bytes → Bytes
 padded_text places text = text ++ replicate (places - length text) 32
 
--- the three letters of a kind
+-- a kind's three letters
 abbrev pub listed_kind_text : Kind → Bytes
 listed_kind_text Del = codes "del"
 listed_kind_text Seq = codes "seq"
@@ -20,13 +20,12 @@ listed_kind_text Prg = codes "prg"
 listed_kind_text Usr = codes "usr"
 listed_kind_text Rel = codes "rel"
 
--- the first line: the disk's name, its id and its DOS version
+-- the first line: the disk's name, id and DOS version
 unfoldable pub header_line : ListingView → Bytes
 header_line listing =
     codes "0 \"" ++ padded_text 16 (spelling listing.name) ++ codes "\" " ++ spelling listing.id ++ codes " " ++ spelling listing.dos ++ codes "\n"
 
--- the line of a file: its size in blocks, its name between quotes, whether it is closed, its kind,
--- and whether it is locked
+-- the line of a file: size in blocks, quoted name, `*` unless closed, kind, `<` if locked
 unfoldable pub row_line : RowView → Bytes
 row_line row =
     padded_text 5 (decimal row.blocks) ++ codes " " ++ padded_text 18 (codes "\"" ++ spelling row.name ++ codes "\"")

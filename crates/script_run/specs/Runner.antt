@@ -15,7 +15,7 @@ use Rattle.script_run.specs.declared.run_options.RunOptions.{RunOptions as CodeO
 abbrev pub options_of : CodeOptions → RunOptions
 options_of options = record { home = option_copied options.home; refusals = options.refusals }
 
--- the writer's bytes, if they are known, and the world on which a run works
+-- the writer's bytes, if known, and the world of a run
 pub record ScriptState : Type 0 where
   pub writer : Option (List ℕ)
   pub world : World
@@ -27,7 +27,7 @@ script_state writer world = record { writer = writer; world = world }
 abbrev pub first_progress : World → RunProgress
 first_progress world = record { world = world; closed = false; accepted = 0; refused = 0 }
 
--- lines have run: what they print was written, and the world is that after them
+-- lines have run: what they print is written, and the world is that after them
 pub record RanLines (options : RunOptions) (old new : ScriptState) (lines : List (List ℕ)) (after : RunProgress) : Type 0 where
   pub out : List ℕ
   pub reported : Transcript options lines (first_progress old.world) out after
@@ -39,8 +39,8 @@ abbrev pub Counts : Tally → RunProgress → Type 0
 Counts tally after =
     (tally.outcome.accepted ≡ after.accepted) × (tally.outcome.refused ≡ after.refused) × (tally.closed ≡ after.closed)
 
--- a write failed at a line: what the lines before it print was written, and a part of what it
--- prints; the world is that after the line
+-- a write failed at a line: what lines before it print is written, and a part of its own; the world
+-- is that after it
 pub record StoppedAt (options : RunOptions) (old new : ScriptState) (lines : List (List ℕ)) : Type 0 where
   pub before : List (List ℕ)
   pub line : List ℕ
@@ -59,7 +59,7 @@ pub record StoppedAt (options : RunOptions) (old new : ScriptState) (lines : Lis
   pub written : Appends old.writer new.writer (out ++ part)
   pub world : new.world ≡ after.world
 
--- the whole script has run, and the outcome has the counts of its lines
+-- the whole script has run, and its lines are counted
 pub record RanWhole (options : RunOptions) (reader : Option (List ℕ)) (old new : ScriptState) (outcome : Outcome) : Type 0 where
   pub script : List ℕ
   pub all : IfSome reader (λ bytes. script ≡ bytes)
@@ -68,7 +68,7 @@ pub record RanWhole (options : RunOptions) (reader : Option (List ℕ)) (old new
   pub accepted : outcome.accepted ≡ after.accepted
   pub refused : outcome.refused ≡ after.refused
 
--- reading failed: the lines that were ended before have run, and did not end the run
+-- reading failed: the lines that were ended before have run, and didn't end the run
 pub record RanRead (options : RunOptions) (reader left : Option (List ℕ)) (old new : ScriptState) : Type 0 where
   pub consumed : List ℕ
   pub lost : Consumes reader left consumed
@@ -82,8 +82,7 @@ pub record RanUpTo (options : RunOptions) (reader : Option (List ℕ)) (old new 
   pub all : IfSome reader (λ bytes. script ≡ bytes)
   pub stopped : StoppedAt options old new (lines_of script)
 
--- the effect of a run, by how it ends; it allocates nothing but in commands, so `Memory` never
--- comes
+-- a run by how it ends; only commands allocate, so `Memory` never comes
 abbrev pub Ran : RunOptions → Option (List ℕ) → Option (List ℕ) → ScriptState → ScriptState → Result Outcome ShellFault → Type 0
 Ran options reader left old new (Ok outcome) = RanWhole options reader old new outcome
 Ran options reader left old new (Err Read) = RanRead options reader left old new

@@ -12,8 +12,8 @@ abbrev pub home_of : List ℕ → Option (List ℕ)
 home_of [] = None
 home_of (byte ∷ bytes) = Some (byte ∷ bytes)
 
--- how a script is run: the name of the host file in which `save` stores by default, if there is
--- one, and the effect of a refused line
+-- how a script is run: the host file that `save` takes by default, if any, and what a refused line
+-- does
 pub record RunOptions : Type 0 where
   pub home : Option (List ℕ)
   pub refusals : Refusals
@@ -22,21 +22,20 @@ pub record RunOptions : Type 0 where
 abbrev pub going_on : Option (List ℕ) → RunOptions
 going_on home = record { home = home; refusals = GoOn }
 
--- whether a line of this status ends its script: it does if the line is refused and refused lines
--- stop
+-- whether a line of this status ends its script: a refused one, if refused lines stop
 abbrev pub ends_script : Refusals → Status → Bool
 ends_script GoOn status = false
 ends_script Stop status = not (is_accepted status)
 
--- how far a run has come: the world, whether it was ended by an accepted `quit` or a refused line,
--- and how many lines were accepted and refused
+-- how far a run is: the world, whether a `quit` or a refused line ended it, and how many lines were
+-- accepted and refused
 pub record RunProgress : Type 0 where
   pub world : World
   pub closed : Bool
   pub accepted : ℕ
   pub refused : ℕ
 
--- the progress of a run after a line with this response
+-- the progress after a line with this response
 abbrev pub counted_progress : Refusals → RunProgress → LineAnswer → World → RunProgress
 counted_progress refusals progress answer world = record {
   world = world;
@@ -49,7 +48,7 @@ counted_progress refusals progress answer world = record {
 abbrev pub IsSilent : RunProgress → List ℕ → RunProgress → Type 0
 IsSilent progress out after = (out ≡ []) × (after ≡ progress)
 
--- one line of a run that has not ended: it is skipped, or its command runs and prints
+-- a line of an open run is skipped, or its command runs and prints
 unfoldable pub Line : RunOptions → List ℕ → RunProgress → List ℕ → RunProgress → Type 0
 Line options line progress out after =
     MatchOption (act_of_line options.home progress.world.history line)
