@@ -1,9 +1,9 @@
 -- The host files to which the names of files are links: those that `extract` writes without
 -- `--part`.
-use Rattle.std.specs.Prelude.{ℕ, Bool, false, if◌then◌else◌, List, [], ◌∷◌, ◌++◌, Option, Some, None, option_map}
+use Rattle.std.specs.Prelude.{ℕ, false, if◌then◌else◌, List, [], ◌∷◌, ◌++◌, Option, Some, None, option_map}
 use Rattle.std.specs.Option.{option_map_or}
 use Rattle.std.specs.Str.{is_utf8}
-use Rattle.d64_files.specs.Slot.{EntryView, is_used}
+use Rattle.d64_files.specs.Slot.{EntryView}
 use Rattle.d64_survey.specs.Dump.{DumpView}
 use Rattle.d64_inventory.specs.Rows.{file_row_of}
 use Rattle.cmd_extract_contents.specs.Portions.{Portion, portion_at}

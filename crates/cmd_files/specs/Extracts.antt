@@ -1,5 +1,5 @@
 -- What is printed of images whose files are written to the host.
-use Rattle.std.specs.Prelude.{ℕ, List, [], Option, codes}
+use Rattle.std.specs.Prelude.{ℕ, List, [], Option}
 use Rattle.d64_image.specs.Disk.{Disk, Bytes}
 use Rattle.d64_leftovers.specs.declared.row.ListedRow.{ListedRow}
 use Rattle.program_arguments.specs.declared.jobs.Format.{Format}

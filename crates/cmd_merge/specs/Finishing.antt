@@ -1,5 +1,5 @@
 -- How a merge ends after its files were read.
-use Rattle.std.specs.Prelude.{◌≡◌, ◌⊎◌, MatchBool, option_map, Option, Some, None, Result, Ok, Err, List, ℕ}
+use Rattle.std.specs.Prelude.{◌≡◌, ◌⊎◌, MatchBool, option_map, Option, Some, None, Result, Ok, Err}
 use Rattle.d64_image.specs.Disk.{Bytes}
 use Rattle.d64_survey.specs.Dump.{dump_bytes}
 use Rattle.host_storage.specs.Files.{HostState}

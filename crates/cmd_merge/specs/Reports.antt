@@ -1,8 +1,8 @@
 -- What is printed and reported of a merge.
-use Rattle.std.specs.Prelude.{ℕ, ◌+◌, ◌==◌, Bool, if◌then◌else◌, List, [], ◌∷◌, ◌++◌, length, Option, Some, None, option_map, Result, Ok, Err}
+use Rattle.std.specs.Prelude.{ℕ, ◌+◌, ◌==◌, Bool, if◌then◌else◌, List, [], ◌∷◌, ◌++◌, length, Option, Some, None, option_map, Ok, Err}
 use Rattle.sha2.specs.Sha256.{sha256}
 use Rattle.d64_image.specs.Disk.{Bytes}
-use Rattle.d64_survey.specs.Dump.{DumpView, dump_bytes}
+use Rattle.d64_survey.specs.Dump.{DumpView}
 use Rattle.d64_g64.specs.DumpOf.{dump_of}
 use Rattle.d64_merge.specs.Merged.{merged_tracks, choices, outcome_count, keeps_codes, merged}
 use Rattle.d64_merge.specs.Left.{left}

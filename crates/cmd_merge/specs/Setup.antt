@@ -1,5 +1,5 @@
 -- What a merge is asked for.
-use Rattle.std.specs.Prelude.{ℕ, Bool, List}
+use Rattle.std.specs.Prelude.{Bool, List}
 use Rattle.d64_image.specs.Disk.{Bytes}
 use Rattle.d64_merge.specs.declared.outcome.Preference.{Preference}
 use Rattle.program_arguments.specs.declared.jobs.DiffForm.{DiffForm}

@@ -1,11 +1,9 @@
 use Rattle.std.proofs.Common.{◌≡◌, ◌∙◌, ◌++◌, ℕ, List, ap, codes}
 use Rattle.std.proofs.lemmas.Result.{on_ok_weaker}
-use Rattle.std.specs.Prelude.{decimal}
-use Rattle.std.specs.List.{flat_map}
 use Rattle.d64_merge.specs.Merged.{outcome_count}
 use Rattle.d64_merge.specs.declared.outcome.BlockOutcome.{BlockOutcome}
-use Rattle.d64_merge.specs.declared.outcome.BlockOutcome.TheVariants.{Same, Taken, Lost, Majority, First, Conflict}
-use Rattle.cmd_merge.proofs.Joined.{three, four}
+use Rattle.d64_merge.specs.declared.outcome.BlockOutcome.TheVariants.{Majority, First, Conflict}
+use Rattle.cmd_merge.proofs.Joined.{three}
 use Rattle.cmd_merge.specs.Lines.{count_if_any, differing_text}
 use Rattle.cmd_merge.proofs.lines.push_differing.Goals as goal
 

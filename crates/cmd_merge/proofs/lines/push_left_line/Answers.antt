@@ -1,11 +1,8 @@
-use Rattle.std.proofs.Common.{◌≡◌, ◌∙◌, ◌++◌, ℕ, List, ap, codes, rules}
+use Rattle.std.proofs.Common.{◌≡◌, ◌++◌, codes, rules}
 use Rattle.std.proofs.lemmas.Result.{on_ok_weaker}
-use Rattle.std.specs.Prelude.{decimal, OnOk}
+use Rattle.std.specs.Prelude.{OnOk}
 use Rattle.std.specs.List.{flat_map}
-use Rattle.d64_merge.specs.Merged.{outcome_count}
-use Rattle.d64_merge.specs.declared.outcome.BlockOutcome.{BlockOutcome}
-use Rattle.d64_merge.specs.declared.outcome.BlockOutcome.TheVariants.{Same, Taken, Lost, Majority, First, Conflict}
-use Rattle.cmd_merge.proofs.Joined.{three, four}
+use Rattle.cmd_merge.proofs.Joined.{three}
 use Rattle.cmd_merge.specs.Lines.{listed_entry, left_line}
 use Rattle.cmd_merge.proofs.lines.push_left_line.Goals as goal
 

@@ -1,4 +1,4 @@
-use Rattle.std.proofs.Common.{◌≡◌, ℕ, length}
+use Rattle.std.proofs.Common.{◌≡◌, length}
 use Rattle.host_names.specs.HostName.{without_last_spaces}
 use Rattle.host_names.proofs.stem.without_last_spaces.Given as goal
 

@@ -1,4 +1,4 @@
-use Rattle.std.proofs.Common.{◌≡◌, arith, rules}
+use Rattle.std.proofs.Common.{arith, rules}
 use Rattle.std.proofs.lemmas.Bool.{ne_eqb}
 use Rattle.out_messages.proofs.FirstCharacters.{all_of, enough, next_character, other_byte}
 use Rattle.out_messages.proofs.first_characters.first_characters.Goals.{then-begins_character+else-left-eq0, else-begins_character}
