@@ -13,7 +13,8 @@ use program_console::StreamFault;
 use script_text::input::INPUT_BYTES;
 use std::alloc::{AllocError, Global};
 
-/// Returns the bytes of a file of the host, or why it cannot be read, as far as the host can say.
+/// Returns the bytes of a file of the host, or why it cannot be read, as far as the host can say. A
+/// file that cannot be opened without waiting, such as a named pipe, cannot be read.
 pub fn read_contents<H: Host>(
     alloc: Global,
     name: &str,
@@ -24,8 +25,9 @@ pub fn read_contents<H: Host>(
     ensures memory { IfErr result (λ fault. (fault ≡ StreamFault.Memory)
         × (H.state host.new ≡ H.state host.old)) }
 {
-    match host.fetch(alloc, name, INPUT_BYTES) {
-        Ok(bytes) => Ok(Ok(bytes)),
+    let mut bytes = Vec::new(alloc);
+    match host.fill(name, INPUT_BYTES, &mut bytes) {
+        Ok(()) => Ok(Ok(bytes)),
         Err(HostFault::Memory(_)) => Err(StreamFault::Memory),
         Err(fault) => Ok(Err(reason_of(host, name, fault))),
     }
