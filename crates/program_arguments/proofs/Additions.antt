@@ -1,6 +1,6 @@
 -- A command that an argument or a subcommand is added to is the one that is described so, and stays
 -- without global arguments.
-use Rattle.std.proofs.Common.{◌≡◌, ◌∙◌, ◌∷◌, ◌+◌, ◌<◌, ℕ, List, [], ap, ap₂, refl, fold, length, slice_index_or, take}
+use Rattle.std.proofs.Common.{◌≡◌, ◌∙◌, ◌∷◌, ◌+◌, ◌<◌, ℕ, List, [], Ok, Result, ap, ap₂, refl, subst, fold, length, slice_index_or, take}
 use Rattle.std.proofs.lemmas.List.{take_more}
 use Rattle.std.proofs.lemmas.List.Sums.{fold-append}
 use Rattle.clap.specs.Words.{AddsSubcommand, App, Rule, with_rule, with_subcommand}
@@ -8,11 +8,14 @@ use Rattle.clap.specs.Built.{AddsArg}
 use Rattle.clap.specs.declared.builder.arg.Arg.{Arg}
 use Rattle.clap.specs.declared.builder.command.Command.{Command}
 use Rattle.program_arguments.specs.Commands.{bare_app}
-use Rattle.program_arguments.specs.Making.{IsArgument, IsCommand, rule_for, with_rules}
+use Rattle.program_arguments.specs.Making.{IsArgument, IsCommand, IsCommandMade, rule_for, with_rules}
 use Rattle.program_arguments.specs.Subcommands.{app_for}
 use Rattle.program_arguments.specs.declared.arguments.Argument.{Argument}
 use Rattle.program_arguments.specs.declared.subcommand.Subcommand.{Subcommand}
 use Rattle.program_arguments.specs.declared.subcommand.Subcommand.TheVariants.{Shell}
+
+pub is_made : {E : Type 0} {app : App} {made : Result Command E} {command : Command} → made ≡ Ok command → IsCommandMade app made → IsCommand app command
+is_made {app = app} same is = subst (IsCommandMade app) same is
 
 pub with_one : {old new : Command} {argument : Arg} {app : App} {rule : Rule} → AddsArg old argument new → IsCommand app old → IsArgument rule argument
     → IsCommand (with_rule app rule) new

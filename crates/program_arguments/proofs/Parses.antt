@@ -13,7 +13,7 @@ use Rattle.clap.specs.declared.error.kind.ErrorKind.TheVariants.{OutOfMemory}
 use Rattle.clap.specs.declared.parser.matches.ArgMatches.{ArgMatches}
 use Rattle.clap.proofs.OnLiterals.{clap_on_literals}
 use Rattle.program_arguments.specs.Commands.{d64sh}
-use Rattle.program_arguments.specs.Requested.{IsFault, IsFaultOf, IsJob, IsJobOf, IsOneOf, IsReportedAs, Met}
+use Rattle.program_arguments.specs.Requested.{IsFault, IsFaultOf, IsFaultOfKind, IsJob, IsJobOf, IsOneOf, Met}
 use Rattle.program_arguments.specs.declared.jobs.Job.{Job}
 use Rattle.program_arguments.specs.declared.jobs.JobFault.{JobFault}
 use Rattle.program_arguments.specs.declared.jobs.JobFault.TheVariants.{Words, Start, Memory, Tracks, Both, Format, Names, Null, Picture, Difference, Folder, Title, Links, Output, Dumps}
@@ -90,8 +90,9 @@ pub met_as : (words : List Text) {name other : Text} {rows : List Row} → subco
 met_as words {rows = rows} is same = is ∙ ap (λ name. Some (name, rows)) (sym same)
 
 -- clap's error is reported
-pub reported : (words : List Text) (error : Error) (fault : JobFault) → HasKind (fault_of d64sh words) error → IsReportedAs error fault → IsFault words fault
-reported words error (Words carried) kind is = elim kind [ inl memory ↦ absurd (is.1 memory) | inr among ↦ subst (λ (e : Error). IsAmong (kind_of e) (fault_of d64sh words) × (kind_of e ≢ OutOfMemory)) (sym is.0) (among, is.1) ]
+pub reported : (words : List Text) (error : Error) (fault : JobFault) → HasKind (fault_of d64sh words) error → IsFaultOfKind (kind_of error) fault → IsFault words fault
+reported words error (Words carried) kind is =
+    elim kind [ inl memory ↦ absurd (is.1 memory) | inr among ↦ subst (λ k. IsAmong k (fault_of d64sh words) × (k ≢ OutOfMemory)) (sym is.0) (among, is.1) ]
 reported words error Start kind is = absurd is
 reported words error Memory kind is = tt
 reported words error Tracks kind is = absurd is

@@ -4,12 +4,16 @@ use Rattle.clap.specs.Words.{App, Rule, new_app, new_rule, with_rule, with_subco
 use Rattle.clap.specs.Lexer.{usize_max}
 use Rattle.clap.specs.declared.builder.action.ArgAction.TheVariants.{Append, SetTrue}
 
--- `image` and `file`: two positional arguments
+-- a positional argument with this name, which need not be given
+abbrev pub optional_argument : List ℕ → Rule
+optional_argument name = record (new_rule name) { value_names = 1 }
+
+-- `image` and `file`: two such arguments
 abbrev pub image_argument : Rule
-image_argument = record (new_rule (codes "image")) { value_names = 1 }
+image_argument = optional_argument (codes "image")
 
 abbrev pub file_argument : Rule
-file_argument = record (new_rule (codes "file")) { value_names = 1 }
+file_argument = optional_argument (codes "file")
 
 -- a positional argument with this name, which must be given
 abbrev pub required_argument : List ℕ → Rule

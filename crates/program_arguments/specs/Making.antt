@@ -4,9 +4,9 @@ use Rattle.clap.specs.Words.{App, Rule, app_of, rule_of, with_rule}
 use Rattle.clap.specs.declared.builder.arg.Arg.{Arg}
 use Rattle.clap.specs.declared.builder.command.Command.{Command}
 use Rattle.clap.specs.declared.builder.command.Command.TheViews.{out-Command as fields_of}
-use Rattle.program_arguments.specs.Commands.{file_argument, files_argument, flag, image_argument, line_option, output_option, required_argument, stop_flag, valued_option}
+use Rattle.program_arguments.specs.Commands.{files_argument, flag, line_option, optional_argument, output_option, required_argument, stop_flag, valued_option}
 use Rattle.program_arguments.specs.declared.arguments.Argument.{Argument}
-use Rattle.program_arguments.specs.declared.arguments.Argument.TheVariants.{Valued, Flag, Required, Image, File, Files, Output, Line, StopFlag}
+use Rattle.program_arguments.specs.declared.arguments.Argument.TheVariants.{Valued, Flag, Required, Optional, Files, Output, Line, StopFlag}
 
 -- an argument has this rule, and is not global
 abbrev pub IsArgument : Rule → Arg → Type 0
@@ -25,8 +25,7 @@ abbrev pub rule_for : Argument → Rule
 rule_for (Valued name value help) = valued_option name.now
 rule_for (Flag name help) = flag name.now
 rule_for (Required id name help) = required_argument id.now
-rule_for Image = image_argument
-rule_for (File help) = file_argument
+rule_for (Optional id name help) = optional_argument id.now
 rule_for (Files help) = files_argument
 rule_for (Output value help) = output_option
 rule_for Line = line_option

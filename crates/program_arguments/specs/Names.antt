@@ -25,6 +25,12 @@ has_null rows = has_flag (codes "null") rows
 abbrev pub separator_by : List Row → Separator
 separator_by rows = if has_null rows then Nul else LineFeed
 
+-- the names are in this list, with no FILE; or without a list, those of FILE.., one or more, with
+-- neither `--files-from` nor `--null`
+abbrev pub IsListBy : List Row → Option Text → Type 0
+IsListBy rows (Some list) = (list_by rows ≡ Some list) × (files_by rows ≡ [])
+IsListBy rows None = (files_by rows ≢ []) × (list_by rows ≡ None) × (has_null rows ≡ false)
+
 -- the names are those of FILE.., one or more, with neither `--files-from` nor `--null`; or those of
 -- LIST, with no FILE
 abbrev pub IsNamesBy : List Row → Names → Type 0

@@ -1,9 +1,12 @@
 -- What the arguments of the program ask for.
-use Rattle.std.specs.Prelude.{◌≡◌, ◌≢◌, ◌⊎◌, ◌∷◌, ℕ, List, [], codes, None, Option, Some, option_map, IsSome, IsSomeAnd, String, map, string_bytes, ⊤}
+use Rattle.std.specs.Prelude.{◌≡◌, ◌≢◌, ◌⊎◌, ◌∷◌, ℕ, List, [], codes, None, Option, Some, option_map, drop, IsSome, IsSomeAnd, String, map, string_bytes, ⊤}
 use Rattle.clap.specs.Words.{Row, Text, IsAmong, fault_of, first_of, kind_of, subcommand_of}
 use Rattle.clap.specs.declared.error.Error.{Error}
+use Rattle.clap.specs.declared.error.kind.ErrorKind.{ErrorKind}
 use Rattle.clap.specs.declared.error.kind.ErrorKind.TheVariants.{DisplayHelp, DisplayVersion, OutOfMemory}
 use Rattle.program_arguments.specs.Commands.{apps, d64sh}
+use Rattle.program_arguments.specs.Subcommands.{name_for}
+use Rattle.program_arguments.specs.declared.subcommand.Subcommand.{Subcommand}
 use Rattle.program_arguments.specs.Start.{IsStartBy, HasNoAddress}
 use Rattle.program_arguments.specs.Tracks.{IsTracksBy, HasNoTracks}
 use Rattle.program_arguments.specs.Extraction.{HasNoFolder, IsExtractionBy}
@@ -152,6 +155,16 @@ abbrev pub IsReportedAs : Error → JobFault → Type 0
 IsReportedAs error (Words reported) = (reported ≡ error) × (kind_of error ≢ OutOfMemory)
 IsReportedAs error Memory = kind_of error ≡ OutOfMemory
 IsReportedAs error fault = ⊥
+
+-- a fault for an error of this kind of clap's: one that has this kind; or memory ran out
+abbrev pub IsFaultOfKind : ErrorKind → JobFault → Type 0
+IsFaultOfKind kind (Words error) = (kind_of error ≡ kind) × (kind ≢ OutOfMemory)
+IsFaultOfKind kind Memory = ⊤
+IsFaultOfKind kind fault = ⊥
+
+-- after the first of the arguments comes the name of this subcommand
+abbrev pub GoesOnWith : List Text → Subcommand → Type 0
+GoesOnWith words subcommand = (rest : List Text) × (drop 1 words ≡ name_for subcommand ∷ rest)
 
 -- the fault is the help or the version that the arguments asked for
 abbrev pub IsHelpOrVersion : JobFault → Type 0

@@ -1,9 +1,9 @@
 //! The arguments of subcommands, as rows of a table, and what `clap` makes of them.
 
 ghost use Rattle.std.specs.Prelude.{◌≡◌, false};
-ghost use Rattle.clap.specs.Words.{App, rule_of};
-ghost use Rattle.program_arguments.specs.Commands.{file_argument, files_argument, flag, image_argument, line_option, output_option, required_argument, stop_flag, valued_option};
-ghost use Rattle.program_arguments.specs.Making.{IsArgument, IsCommandMade, rule_for, with_rules};
+ghost use Rattle.clap.specs.Words.{App, rule_of, with_rule};
+ghost use Rattle.program_arguments.specs.Commands.{files_argument, flag, line_option, optional_argument, output_option, required_argument, stop_flag, valued_option};
+ghost use Rattle.program_arguments.specs.Making.{IsArgument, IsCommand, IsCommandMade, rule_for, with_rules};
 
 use clap::{Arg, ArgAction, Command};
 use std::alloc::{AllocError, Global};
@@ -18,10 +18,8 @@ pub(crate) enum Argument {
     Flag(&'static str, &'static str),
     /// `NAME`, which must be given.
     Required(&'static str, &'static str, &'static str),
-    /// `[IMAGE]`.
-    Image,
-    /// `[FILE]`.
-    File(&'static str),
+    /// `[NAME]`.
+    Optional(&'static str, &'static str, &'static str),
     /// `[FILE]..`.
     Files(&'static str),
     /// `-o VALUE` and `--output VALUE`.
@@ -41,8 +39,7 @@ impl Argument {
             Argument::Valued(name, value, help) => valued_option(alloc, name, value, help),
             Argument::Flag(name, help) => flag(alloc, name, help),
             Argument::Required(id, name, help) => required_argument(alloc, id, name, help),
-            Argument::Image => image_argument(alloc),
-            Argument::File(help) => file_argument(alloc, help),
+            Argument::Optional(id, name, help) => optional_argument(alloc, id, name, help),
             Argument::Files(help) => files_argument(alloc, help),
             Argument::Output(value, help) => output_option(alloc, value, help),
             Argument::Line => line_option(alloc),
@@ -51,30 +48,39 @@ impl Argument {
     }
 }
 
-/// Returns the command with these arguments added, or that memory ran out, for the command or for
-/// them. No exit drops a command: each call that can fail takes it.
+/// Returns the command with these arguments added, or that memory ran out.
 pub(crate) fn with_arguments<'a>(
     alloc: Global,
-    command: Result<Command<'a>, AllocError>,
+    command: Command<'a>,
     arguments: &[Argument],
 ) -> Result<Command<'a>, AllocError>
-    ensures { (app : App) → IsCommandMade app command.entry → IsCommandMade (with_rules app arguments.now) result }
+    ensures { (app : App) → IsCommand app command.entry → IsCommandMade (with_rules app arguments.now) result }
 {
-    let mut command = command?;
+    let mut command = Ok(command);
     for argument in arguments {
-        command = command.arg(argument.arg(alloc))?;
+        command = with_argument(alloc, command, *argument);
     }
-    Ok(command)
+    command
 }
 
-/// Returns `[IMAGE]`.
-fn image_argument<'a>(alloc: Global) -> Arg<'a>
-    ensures rule { rule_of result ≡ image_argument }
+/// Returns the command with this argument added. No exit drops a command: each call that can fail
+/// takes it.
+fn with_argument<'a>(
+    alloc: Global,
+    command: Result<Command<'a>, AllocError>,
+    argument: Argument,
+) -> Result<Command<'a>, AllocError>
+    ensures { (app : App) → IsCommandMade app command.entry → IsCommandMade (with_rule app (rule_for argument)) result }
+{
+    command?.arg(argument.arg(alloc))
+}
+
+/// Returns `[NAME]`.
+fn optional_argument<'a>(alloc: Global, id: &'a str, name: &'a str, help: &'a str) -> Arg<'a>
+    ensures rule { rule_of result ≡ optional_argument id.now }
     ensures local { result.global ≡ false }
 {
-    Arg::new(alloc, "image")
-        .value_name("IMAGE")
-        .help("The D64 image to work on; without it, a blank image")
+    Arg::new(alloc, id).value_name(name).help(help)
 }
 
 /// Returns `[FILE]..`.
@@ -82,18 +88,23 @@ fn files_argument<'a>(alloc: Global, help: &'a str) -> Arg<'a>
     ensures rule { rule_of result ≡ files_argument }
     ensures local { result.global ≡ false }
 {
-    Arg::new(alloc, "file")
-        .value_name("FILE")
-        .num_args(1..)
-        .help(help)
+    optional_argument(alloc, "file", "FILE", help).num_args(1..)
 }
 
-/// Returns `[FILE]`.
-fn file_argument<'a>(alloc: Global, help: &'a str) -> Arg<'a>
-    ensures rule { rule_of result ≡ file_argument }
+/// Returns `NAME`, which must be given.
+fn required_argument<'a>(alloc: Global, id: &'a str, name: &'a str, help: &'a str) -> Arg<'a>
+    ensures rule { rule_of result ≡ required_argument id.now }
     ensures local { result.global ≡ false }
 {
-    Arg::new(alloc, "file").value_name("FILE").help(help)
+    optional_argument(alloc, id, name, help).required(true)
+}
+
+/// Returns `--NAME VALUE`.
+fn valued_option<'a>(alloc: Global, name: &'a str, value: &'a str, help: &'a str) -> Arg<'a>
+    ensures rule { rule_of result ≡ valued_option name.now }
+    ensures local { result.global ≡ false }
+{
+    optional_argument(alloc, name, value, help).long(name)
 }
 
 /// Returns `-o VALUE` and `--output VALUE`.
@@ -130,28 +141,6 @@ fn stop_flag<'a>(alloc: Global) -> Arg<'a>
         "End the script after the first line that is refused",
     )
     .short('e')
-}
-
-/// Returns `NAME`, which must be given.
-fn required_argument<'a>(alloc: Global, id: &'a str, name: &'a str, help: &'a str) -> Arg<'a>
-    ensures rule { rule_of result ≡ required_argument id.now }
-    ensures local { result.global ≡ false }
-{
-    Arg::new(alloc, id)
-        .value_name(name)
-        .required(true)
-        .help(help)
-}
-
-/// Returns `--NAME VALUE`.
-fn valued_option<'a>(alloc: Global, name: &'a str, value: &'a str, help: &'a str) -> Arg<'a>
-    ensures rule { rule_of result ≡ valued_option name.now }
-    ensures local { result.global ≡ false }
-{
-    Arg::new(alloc, name)
-        .long(name)
-        .value_name(value)
-        .help(help)
 }
 
 /// Returns `--NAME`.

@@ -6,7 +6,6 @@ ghost use Rattle.program_arguments.specs.Subcommands.{name_for};
 use crate::subcommand::Subcommand;
 
 /// The help of a subcommand as a whole.
-#[derive(Clone, Copy)]
 pub(crate) struct Help {
     /// The subcommand's name.
     pub(crate) name: &'static str,
@@ -20,73 +19,93 @@ pub(crate) struct Help {
 
 impl Subcommand {
     /// Returns the help of the subcommand: its row.
-    pub(crate) fn help(self) -> Help
-        ensures { result.name.now ≡ name_for self }
+    pub(crate) fn help(self) -> &'static Help
+        ensures { result.now.name.now ≡ name_for self }
     {
         match self {
-            Subcommand::Shell => Help {
-                name: "shell",
-                about: "Runs a script of commands on a disk image",
-                usage: SHELL_USAGE,
-                details: SHELL_DETAILS,
-            },
-            Subcommand::Petcat => Help {
-                name: "petcat",
-                about: "Lists a BASIC program as text",
-                usage: PETCAT_USAGE,
-                details: PETCAT_DETAILS,
-            },
-            Subcommand::Crunch => Help {
-                name: "crunch",
-                about: "Makes a BASIC program from a text",
-                usage: CRUNCH_USAGE,
-                details: CRUNCH_DETAILS,
-            },
-            Subcommand::Check => Help {
-                name: "check",
-                about: "Says what is wrong on disk images, and where",
-                usage: CHECK_USAGE,
-                details: CHECK_DETAILS,
-            },
-            Subcommand::Files => Help {
-                name: "files",
-                about: "Lists the files on disk images, and which are whole",
-                usage: FILES_USAGE,
-                details: FILES_DETAILS,
-            },
-            Subcommand::Extract => Help {
-                name: "extract",
-                about: "Writes the files on disk images to folders",
-                usage: EXTRACT_USAGE,
-                details: EXTRACT_DETAILS,
-            },
-            Subcommand::Map => Help {
-                name: "map",
-                about: "Draws a map of the blocks of a disk image",
-                usage: MAP_USAGE,
-                details: MAP_DETAILS,
-            },
-            Subcommand::Diff => Help {
-                name: "diff",
-                about: "Says what changed from one disk image to another",
-                usage: DIFF_USAGE,
-                details: DIFF_DETAILS,
-            },
-            Subcommand::Merge => Help {
-                name: "merge",
-                about: "Makes one dump of several dumps of one disk",
-                usage: MERGE_USAGE,
-                details: MERGE_DETAILS,
-            },
-            Subcommand::Catalogue => Help {
-                name: "catalogue",
-                about: "Makes one page of what is on disk images, to browse and search",
-                usage: CATALOGUE_USAGE,
-                details: CATALOGUE_DETAILS,
-            },
+            Subcommand::Shell => &SHELL,
+            Subcommand::Petcat => &PETCAT,
+            Subcommand::Crunch => &CRUNCH,
+            Subcommand::Check => &CHECK,
+            Subcommand::Files => &FILES,
+            Subcommand::Extract => &EXTRACT,
+            Subcommand::Map => &MAP,
+            Subcommand::Diff => &DIFF,
+            Subcommand::Merge => &MERGE,
+            Subcommand::Catalogue => &CATALOGUE,
         }
     }
 }
+
+const SHELL: Help = Help {
+    name: "shell",
+    about: "Runs a script of commands on a disk image",
+    usage: SHELL_USAGE,
+    details: SHELL_DETAILS,
+};
+
+const PETCAT: Help = Help {
+    name: "petcat",
+    about: "Lists a BASIC program as text",
+    usage: PETCAT_USAGE,
+    details: PETCAT_DETAILS,
+};
+
+const CRUNCH: Help = Help {
+    name: "crunch",
+    about: "Makes a BASIC program from a text",
+    usage: CRUNCH_USAGE,
+    details: CRUNCH_DETAILS,
+};
+
+const CHECK: Help = Help {
+    name: "check",
+    about: "Says what is wrong on disk images, and where",
+    usage: CHECK_USAGE,
+    details: CHECK_DETAILS,
+};
+
+const FILES: Help = Help {
+    name: "files",
+    about: "Lists the files on disk images, and which are whole",
+    usage: FILES_USAGE,
+    details: FILES_DETAILS,
+};
+
+const EXTRACT: Help = Help {
+    name: "extract",
+    about: "Writes the files on disk images to folders",
+    usage: EXTRACT_USAGE,
+    details: EXTRACT_DETAILS,
+};
+
+const MAP: Help = Help {
+    name: "map",
+    about: "Draws a map of the blocks of a disk image",
+    usage: MAP_USAGE,
+    details: MAP_DETAILS,
+};
+
+const DIFF: Help = Help {
+    name: "diff",
+    about: "Says what changed from one disk image to another",
+    usage: DIFF_USAGE,
+    details: DIFF_DETAILS,
+};
+
+const MERGE: Help = Help {
+    name: "merge",
+    about: "Makes one dump of several dumps of one disk",
+    usage: MERGE_USAGE,
+    details: MERGE_DETAILS,
+};
+
+const CATALOGUE: Help = Help {
+    name: "catalogue",
+    about: "Makes one page of what is on disk images, to browse and search",
+    usage: CATALOGUE_USAGE,
+    details: CATALOGUE_DETAILS,
+};
 
 /// What the program does.
 pub(crate) const ABOUT: &str =

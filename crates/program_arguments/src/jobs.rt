@@ -8,6 +8,7 @@ ghost use Rattle.program_arguments.specs.declared.jobs.JobFault.TheVariants.{Mem
 use clap::Error as WordsError;
 use clap::error::ErrorKind;
 use std::alloc::AllocError;
+use std::fmt;
 use thiserror::Error;
 
 /// What the arguments ask for. The names are names of host files, as they are given.
@@ -174,11 +175,9 @@ pub enum Separator {
 
 /// Why the arguments ask for no job.
 #[derive(Debug, Drop, Error)]
-#[error("{}", self.text().unwrap_or_default())]
 pub enum JobFault {
     /// The arguments are not the program's, or ask for help or the version, which is then the
     /// error's text.
-    #[error("{0}")]
     Words(WordsError),
     /// The value of `--start` is not one to four hexadecimal digits.
     Start,
@@ -241,6 +240,15 @@ impl JobFault {
             JobFault::Links => Some("usage: --links takes the name of a folder"),
             JobFault::Output => Some("usage: merge needs --output OUT"),
             JobFault::Dumps => Some("usage: give one FILE or more"),
+        }
+    }
+}
+
+impl fmt::Display for JobFault {
+    fn fmt<W: fmt::Write>(&self, f: &mut fmt::Formatter<W>) -> fmt::Result {
+        match self {
+            JobFault::Words(error) => error.fmt(f),
+            fault => f.write_str(fault.text().unwrap_or_default()),
         }
     }
 }

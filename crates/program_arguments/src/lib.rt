@@ -10,6 +10,7 @@ mod help;
 mod jobs;
 mod merging;
 mod reading;
+mod rows;
 mod subcommand;
 mod surveys;
 mod tips;

@@ -1,10 +1,11 @@
 //! From the arguments to the job that they ask for.
 
-ghost use Rattle.std.specs.Prelude.{◌≡◌, IfOk, IfErr, MatchOption, codes, map};
+ghost use Rattle.std.specs.Prelude.{◌≡◌, IfOk, IfErr, IfSome, MatchOption, codes, drop, map};
 ghost use Rattle.std.specs.Char.{is_ascii_hexdigit};
 ghost use Rattle.std.specs.List.{list_all};
 ghost use Rattle.clap.specs.Words.{found_of, first_of, kind_of, rows_of};
-ghost use Rattle.program_arguments.specs.Requested.{IsJob, IsJobOf, IsFault, IsFaultOf};
+ghost use Rattle.clap.specs.declared.error.kind.ErrorKind.{ErrorKind};
+ghost use Rattle.program_arguments.specs.Requested.{GoesOnWith, HasBoth, IsJob, IsJobOf, IsFault, IsFaultOf, IsFaultOfKind};
 ghost use Rattle.program_arguments.specs.Start.{IsAddress, address_of, IsStartBy, HasNoAddress};
 ghost use Rattle.program_arguments.specs.Tracks.{track_count, IsTracksBy, HasNoTracks};
 ghost use Rattle.program_arguments.specs.declared.jobs.JobFault.TheVariants.{Start, Tracks};
@@ -45,17 +46,44 @@ pub fn job(alloc: Global, words: &[&str]) -> Result<Job, JobFault>
     ensures job { IfOk result (IsJob (map (λ word. word.now) words.now)) }
     ensures fault { IfErr result (IsFault (map (λ word. word.now) words.now)) }
 {
-    let Some(name) = words.get(1) else {
-        return program_job(alloc, words);
-    };
-    let Some(subcommand) = Subcommand::named(name) else {
-        return program_job(alloc, words);
-    };
-    // it makes of the arguments from its name on what `d64sh` makes of all arguments, and the
-    // options of the other subcommands are not made for it
-    match subcommand.command(alloc)?.try_get_matches_from(&words[1..]) {
+    match named_by(words) {
+        Some(subcommand) => subcommand_job(alloc, words, subcommand),
+        None => program_job(alloc, words),
+    }
+}
+
+/// Returns the subcommand with whose name the arguments begin, after the program's name.
+fn named_by(words: &[&str]) -> Option<Subcommand>
+    ensures { IfSome result (GoesOnWith (map (λ word. word.now) words.now)) }
+{
+    match words.get(1) {
+        Some(name) => Subcommand::named(name),
+        None => None,
+    }
+}
+
+/// Returns the arguments after the program's name.
+fn after_program<'a>(words: &'a [&'a str]) -> &'a [&'a str]
+    ensures { result.now ≡ drop 1 words.now }
+{
+    match words {
+        [_, rest @ ..] => rest,
+        [] => &[],
+    }
+}
+
+/// Does the same for arguments that begin with this subcommand. It makes of the arguments from its
+/// name on what `d64sh` makes of all arguments, and the options of the other subcommands are not
+/// made for it.
+fn subcommand_job(alloc: Global, words: &[&str], subcommand: Subcommand) -> Result<Job, JobFault>
+    requires { GoesOnWith (map (λ word. word.now) words.now) subcommand }
+    ensures job { IfOk result (IsJob (map (λ word. word.now) words.now)) }
+    ensures fault { IfErr result (IsFault (map (λ word. word.now) words.now)) }
+{
+    let command = subcommand.command(alloc)?;
+    match command.try_get_matches_from(after_program(words)) {
         Ok(arguments) => subcommand.job(alloc, &arguments),
-        Err(error) => Err(JobFault::from(explained(alloc, words, subcommand, error)?)),
+        Err(error) => Err(explained(alloc, words, subcommand, error)),
     }
 }
 
@@ -67,7 +95,7 @@ fn program_job(alloc: Global, words: &[&str]) -> Result<Job, JobFault>
 {
     let matches = match command::d64sh(alloc)?.try_get_matches_from(words) {
         Ok(matches) => matches,
-        Err(error) => return Err(JobFault::from(with_tip(alloc, words, error)?)),
+        Err(error) => return Err(reported(with_tip(alloc, words, error))),
     };
     let Some((name, arguments)) = matches.subcommand() else {
         unreachable!()
@@ -78,27 +106,32 @@ fn program_job(alloc: Global, words: &[&str]) -> Result<Job, JobFault>
     subcommand.job(alloc, arguments)
 }
 
-/// Returns the error of a subcommand, with its usage if `clap` prints none, or with a tip if
-/// `shell` was probably meant otherwise.
-fn explained(
-    alloc: Global,
-    words: &[&str],
-    subcommand: Subcommand,
-    error: Error,
-) -> Result<Error, AllocError>
-    ensures { IfOk result (λ reported. kind_of reported ≡ kind_of error) }
+/// Returns the fault for an error of a subcommand, with its usage if `clap` prints none, or with a
+/// tip if `shell` was probably meant otherwise.
+fn explained(alloc: Global, words: &[&str], subcommand: Subcommand, error: Error) -> JobFault
+    ensures { IsFaultOfKind (kind_of error) result }
 {
     if error.kind() == ErrorKind::InvalidValue {
-        with_usage(alloc, subcommand, &error)
+        reported(with_usage(alloc, subcommand, error))
     } else {
-        with_tip(alloc, words, error)
+        reported(with_tip(alloc, words, error))
+    }
+}
+
+/// Returns the fault for an error that was made, or for the memory that it lacked.
+fn reported(error: Result<Error, AllocError>) -> JobFault
+    ensures { (kind : ErrorKind) → IfOk error (λ made. kind_of made ≡ kind) → IsFaultOfKind kind result }
+{
+    match error {
+        Ok(made) => JobFault::from(made),
+        Err(lacking) => JobFault::from(lacking),
     }
 }
 
 /// Returns the error that an option lacks its value, with the usage of the subcommand: `clap`
 /// prints no usage for that error.
-fn with_usage(alloc: Global, subcommand: Subcommand, error: &Error) -> Result<Error, AllocError>
-    ensures { IfOk result (λ reported. kind_of reported ≡ kind_of error.now) }
+fn with_usage(alloc: Global, subcommand: Subcommand, error: Error) -> Result<Error, AllocError>
+    ensures { IfOk result (λ reported. kind_of reported ≡ kind_of error) }
 {
     let text = format!(in alloc; "{error}")?;
     command::error(
@@ -114,15 +147,11 @@ pub(crate) fn shell_job(alloc: Global, arguments: &ArgMatches) -> Result<Job, Jo
     ensures job { IfOk result (IsJobOf (codes "shell", rows_of (found_of arguments.now))) }
     ensures fault { IfErr result (IsFaultOf (codes "shell", rows_of (found_of arguments.now))) }
 {
-    let tracks = tracks(arguments)?;
-    let resume = value(alloc, arguments, "resume")?;
-    if resume.is_some() && given(arguments, "tracks").is_some() {
-        return Err(JobFault::Both);
-    }
+    let tracks = script_tracks(arguments)?;
     Ok(Job::Shell {
         image: value(alloc, arguments, "image")?,
         tracks,
-        resume,
+        resume: value(alloc, arguments, "resume")?,
         lines: values(alloc, arguments, "command")?,
         stops_at_refusal: has_flag(arguments, "stop-at-refusal"),
     })
@@ -149,6 +178,21 @@ pub(crate) fn crunch_job(alloc: Global, arguments: &ArgMatches) -> Result<Job, J
         file: value(alloc, arguments, "file")?,
         output: value(alloc, arguments, "output")?,
     })
+}
+
+/// Returns the tracks that the arguments of `shell` give, or the default number; an error if they
+/// give `--resume` too, whose file has tracks of its own.
+fn script_tracks(arguments: &ArgMatches) -> Result<u8, JobFault>
+    ensures tracks { IfOk result (IsTracksBy (first_of (codes "tracks") (rows_of (found_of arguments.now)))
+        (first_of (codes "image") (rows_of (found_of arguments.now)))) }
+    ensures alone { IfOk result (λ tracks. ¬ HasBoth (codes "shell", rows_of (found_of arguments.now))) }
+    ensures fault { IfErr result (IsFaultOf (codes "shell", rows_of (found_of arguments.now))) }
+{
+    let tracks = tracks(arguments)?;
+    if given(arguments, "resume").is_some() && given(arguments, "tracks").is_some() {
+        return Err(JobFault::Both);
+    }
+    Ok(tracks)
 }
 
 /// Returns the tracks that the arguments give, or the default number.

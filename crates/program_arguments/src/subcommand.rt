@@ -6,11 +6,13 @@ ghost use Rattle.program_arguments.specs.Making.{IsCommandMade};
 ghost use Rattle.program_arguments.specs.Requested.{HasValues, IsFaultOf, IsJobOf, IsOneOf, requirements, subcommands};
 ghost use Rattle.program_arguments.specs.Subcommands.{app_for, name_for, reports};
 
-use crate::command;
+use crate::arguments::with_arguments;
+use crate::command::begun;
 use crate::dumps::{diff_job, map_job};
 use crate::jobs::{Job, JobFault};
 use crate::merging::merge_job;
 use crate::reading::{crunch_job, petcat_job, shell_job};
+use crate::rows::arguments_of;
 use crate::surveys::{catalogue_job, check_job, extract_job, files_job};
 use clap::{ArgMatches, Command};
 use std::alloc::{AllocError, Global};
@@ -85,18 +87,7 @@ impl Subcommand {
     pub(crate) fn command<'a>(self, alloc: Global) -> Result<Command<'a>, AllocError>
         ensures { IsCommandMade (app_for self) result }
     {
-        match self {
-            Subcommand::Shell => command::shell(alloc),
-            Subcommand::Petcat => command::petcat(alloc),
-            Subcommand::Crunch => command::crunch(alloc),
-            Subcommand::Check => command::check(alloc),
-            Subcommand::Files => command::files(alloc),
-            Subcommand::Extract => command::extract(alloc),
-            Subcommand::Map => command::map(alloc),
-            Subcommand::Diff => command::diff(alloc),
-            Subcommand::Merge => command::merge(alloc),
-            Subcommand::Catalogue => command::catalogue(alloc),
-        }
+        with_arguments(alloc, begun(alloc, self), arguments_of(self))
     }
 
     /// Returns the job that the subcommand with these matches asks for.

@@ -1,19 +1,19 @@
 //! The jobs that survey files: what their arguments have in common.
 
-ghost use Rattle.std.specs.Prelude.{◌≡◌, ◌⊎◌, IfOk, IfErr, codes};
-ghost use Rattle.clap.specs.Words.{found_of, first_of, rows_of};
+ghost use Rattle.std.specs.Prelude.{◌≡◌, ◌≢◌, ◌⊎◌, List, [], Some, IfOk, IfErr, codes, option_map, string_bytes};
+ghost use Rattle.clap.specs.Words.{Row, found_of, first_of, rows_of};
 ghost use Rattle.program_arguments.specs.Requested.{IsJobOf, IsFaultOf};
-ghost use Rattle.program_arguments.specs.Extraction.{HasNoFolder, IsExtractionBy};
+ghost use Rattle.program_arguments.specs.Extraction.{HasNoFolder, IsExtractionBy, folder_by};
 ghost use Rattle.program_arguments.specs.Leftovers.{IsLeftoversBy};
-ghost use Rattle.program_arguments.specs.Names.{IsNamesBy, IsNamesFault};
-ghost use Rattle.program_arguments.specs.Page.{is_left_empty, IsPageBy, IsPageFault};
+ghost use Rattle.program_arguments.specs.Names.{IsListBy, IsNamesBy, IsNamesFault, files_by, has_null, list_by};
+ghost use Rattle.program_arguments.specs.Page.{is_left_empty, HasNamedPage, IsPageBy, IsPageFault};
 ghost use Rattle.program_arguments.specs.declared.jobs.JobFault.TheVariants.{Folder, Memory};
 
 use crate::forms::format;
 use crate::jobs::{Extraction, Job, JobFault, Leftovers, Names, Page, Separator};
-use crate::values::{given, has_flag, value, values};
+use crate::values::{given, has_flag, lacks_values, value, values};
 use clap::ArgMatches;
-use std::alloc::Global;
+use std::alloc::{AllocError, Global};
 
 /// Returns the job that `check` with these matches asks for.
 pub(crate) fn check_job(alloc: Global, arguments: &ArgMatches) -> Result<Job, JobFault>
@@ -70,15 +70,24 @@ fn extraction(alloc: Global, arguments: &ArgMatches) -> Result<Extraction, JobFa
     ensures extraction { IfOk result (IsExtractionBy (rows_of (found_of arguments.now))) }
     ensures fault { IfErr result (λ fault. (fault ≡ Memory) ⊎ ((fault ≡ Folder) × HasNoFolder (first_of (codes "into") (rows_of (found_of arguments.now))))) }
 {
+    Ok(Extraction {
+        into: String::from_str(alloc, folder(arguments)?)?,
+        part: has_flag(arguments, "part"),
+        skip_existing: has_flag(arguments, "skip-existing"),
+    })
+}
+
+/// Returns the name of the folder that files go into, which is not empty.
+fn folder<'a>(arguments: &ArgMatches<'a>) -> Result<&'a str, JobFault>
+    ensures folder { IfOk result (λ folder. folder.now ≡ folder_by (rows_of (found_of arguments.now))) }
+    ensures named { IfOk result (λ folder. folder_by (rows_of (found_of arguments.now)) ≢ []) }
+    ensures fault { IfErr result (λ fault. (fault ≡ Folder) × HasNoFolder (first_of (codes "into") (rows_of (found_of arguments.now)))) }
+{
     let into = given(arguments, "into").unwrap_or(".");
     if into.is_empty() {
         return Err(JobFault::Folder);
     }
-    Ok(Extraction {
-        into: String::from_str(alloc, into)?,
-        part: has_flag(arguments, "part"),
-        skip_existing: has_flag(arguments, "skip-existing"),
-    })
+    Ok(into)
 }
 
 /// Returns the job that `catalogue` with these matches asks for.
@@ -107,12 +116,7 @@ fn page(alloc: Global, arguments: &ArgMatches) -> Result<Page, JobFault>
     ensures page { IfOk result (IsPageBy (rows_of (found_of arguments.now))) }
     ensures fault { IfErr result (IsPageFault (rows_of (found_of arguments.now))) }
 {
-    if is_left_empty(arguments, "title") {
-        return Err(JobFault::Title);
-    }
-    if is_left_empty(arguments, "links") {
-        return Err(JobFault::Links);
-    }
+    check_page(arguments)?;
     Ok(Page {
         maps: has_flag(arguments, "maps"),
         title: value(alloc, arguments, "title")?,
@@ -120,27 +124,58 @@ fn page(alloc: Global, arguments: &ArgMatches) -> Result<Page, JobFault>
     })
 }
 
+/// Checks that a title and a folder of links are not empty, if they are given.
+fn check_page(arguments: &ArgMatches) -> Result<(), JobFault>
+    ensures named { IfOk result (λ _. HasNamedPage (rows_of (found_of arguments.now))) }
+    ensures fault { IfErr result (IsPageFault (rows_of (found_of arguments.now))) }
+{
+    if is_left_empty(arguments, "title") {
+        return Err(JobFault::Title);
+    }
+    if is_left_empty(arguments, "links") {
+        return Err(JobFault::Links);
+    }
+    Ok(())
+}
+
 /// Returns the names that the arguments give, or the list that holds them.
 fn names(alloc: Global, arguments: &ArgMatches) -> Result<Names, JobFault>
     ensures names { IfOk result (IsNamesBy (rows_of (found_of arguments.now))) }
     ensures fault { IfErr result (IsNamesFault (rows_of (found_of arguments.now))) }
 {
-    let files = values(alloc, arguments, "file")?;
+    match list(arguments)? {
+        Some(list) => listed(String::from_str(alloc, list), has_flag(arguments, "null")),
+        None => Ok(Names::Given(values(alloc, arguments, "file")?)),
+    }
+}
+
+/// Returns the names that a list holds, which end with NUL bytes or with line feeds.
+fn listed(list: Result<String, AllocError>, null: bool) -> Result<Names, JobFault>
+    ensures names { (rows : List Row) → IfOk list (λ text. list_by rows ≡ Some (string_bytes text)) → files_by rows ≡ [] → null ≡ has_null rows
+        → IfOk result (IsNamesBy rows) }
+    ensures fault { IfErr result (λ fault. fault ≡ Memory) }
+{
+    Ok(Names::Listed {
+        list: list?,
+        separator: if null {
+            Separator::Nul
+        } else {
+            Separator::LineFeed
+        },
+    })
+}
+
+/// Returns the list that holds the names, or None if the arguments are the names.
+fn list<'a>(arguments: &ArgMatches<'a>) -> Result<Option<&'a str>, JobFault>
+    ensures list { IfOk result (λ list. IsListBy (rows_of (found_of arguments.now)) (option_map (λ text. text.now) list)) }
+    ensures fault { IfErr result (IsNamesFault (rows_of (found_of arguments.now))) }
+{
     let list = given(arguments, "files-from");
-    let null = has_flag(arguments, "null");
-    if files.is_empty() == list.is_none() {
+    if lacks_values(arguments, "file") == list.is_none() {
         return Err(JobFault::Names);
     }
-    match list {
-        Some(list) => Ok(Names::Listed {
-            list: String::from_str(alloc, list)?,
-            separator: if null {
-                Separator::Nul
-            } else {
-                Separator::LineFeed
-            },
-        }),
-        None if null => Err(JobFault::Null),
-        None => Ok(Names::Given(files)),
+    if list.is_none() && has_flag(arguments, "null") {
+        return Err(JobFault::Null);
     }
+    Ok(list)
 }

@@ -34,28 +34,50 @@ fn is_plain(word: &str) -> bool {
     !word.starts_with('-')
 }
 
-/// Returns what the arguments, of which the first is the program's name, probably mean.
+/// Returns what the arguments, of which the first is the program's name, probably mean if they are
+/// refused by an error of this kind.
 fn intent_of<'a>(words: &'a [&'a str], kind: ErrorKind) -> Option<Intent<'a>> {
+    if kind == ErrorKind::InvalidSubcommand {
+        without_subcommand(words)
+    } else if kind == ErrorKind::UnknownArgument {
+        without_option(words)
+    } else {
+        None
+    }
+}
+
+/// Returns what is meant if an image is in the place of the subcommand.
+fn without_subcommand<'a>(words: &'a [&'a str]) -> Option<Intent<'a>> {
     match words {
-        [_, image, rest @ ..] if kind == ErrorKind::InvalidSubcommand && is_path_like(image) => {
+        [_, image, rest @ ..] if is_path_like(image) => Some(Intent {
+            usage: USAGE,
+            image,
+            rest,
+        }),
+        _ => None,
+    }
+}
+
+/// Returns what is meant if a line follows the image of `shell`.
+fn without_option<'a>(words: &'a [&'a str]) -> Option<Intent<'a>> {
+    match words {
+        [_, name, image, rest @ ..]
+            if *name == Subcommand::Shell.name() && is_plain(image) && begins_plainly(rest) => {
             Some(Intent {
-                usage: USAGE,
+                usage: Subcommand::Shell.help().usage,
                 image,
                 rest,
             })
         }
-        [_, name, image, first, ..]
-            if kind == ErrorKind::UnknownArgument
-                && *name == Subcommand::Shell.name()
-                && is_plain(image)
-                && is_plain(first) => {
-            Some(Intent {
-                usage: Subcommand::Shell.help().usage,
-                image,
-                rest: &words[3..],
-            })
-        }
         _ => None,
+    }
+}
+
+/// Whether the first argument is there, and no option.
+fn begins_plainly(words: &[&str]) -> bool {
+    match words {
+        [first, ..] => is_plain(first),
+        [] => false,
     }
 }
 
@@ -108,15 +130,20 @@ fn line_of(alloc: Global, words: &[&str]) -> Result<String, AllocError> {
     Ok(line)
 }
 
-/// Returns what was probably meant, as it is typed.
-fn tip_of(alloc: Global, intent: Intent) -> Result<String, AllocError> {
+/// Returns the message of an error with a tip after it: what was probably meant, as it is typed.
+fn message_with_tip(alloc: Global, message: &str, intent: Intent) -> Result<String, AllocError> {
     let line = line_of(alloc, intent.rest)?;
-    let mut tip = String::new(alloc);
-    tip.push_str("d64sh shell ")?;
-    push_argument(&mut tip, intent.image)?;
-    tip.push_str(" -c ")?;
-    push_argument(&mut tip, line.as_str())?;
-    Ok(tip)
+    let mut text = String::from_str(alloc, message)?;
+    push_tip(&mut text, intent.image, line.as_str())?;
+    Ok(text)
+}
+
+/// Appends a tip: the shell on this image, with this line.
+fn push_tip(text: &mut String, image: &str, line: &str) -> Result<(), AllocError> {
+    text.push_str("\n\n  tip: to run a line on an image: d64sh shell ")?;
+    push_argument(text, image)?;
+    text.push_str(" -c ")?;
+    push_argument(text, line)
 }
 
 /// Returns the error of these arguments, of which the first is the program's name, with a tip if
@@ -125,15 +152,18 @@ fn tip_of(alloc: Global, intent: Intent) -> Result<String, AllocError> {
 pub(crate) fn with_tip(alloc: Global, words: &[&str], error: Error) -> Result<Error, AllocError>
     ensures { IfOk result (λ reported. kind_of reported ≡ kind_of error) }
 {
-    let Some(intent) = intent_of(words, error.kind()) else {
-        return Ok(error);
-    };
-    let tip = tip_of(alloc, intent)?;
+    match intent_of(words, error.kind()) {
+        Some(intent) => meant(alloc, intent, &error),
+        None => Ok(error),
+    }
+}
+
+/// Returns the error with this tip.
+fn meant(alloc: Global, intent: Intent, error: &Error) -> Result<Error, AllocError>
+    ensures { IfOk result (λ reported. kind_of reported ≡ kind_of error.now) }
+{
     let text = format!(in alloc; "{error}")?;
-    let message = format!(in alloc;
-        "{}\n\n  tip: to run a line on an image: {tip}",
-        message_of(text.as_str())
-    )?;
+    let message = message_with_tip(alloc, message_of(text.as_str()), intent)?;
     command::error(alloc, intent.usage, error.kind(), message.as_str())
 }
 

@@ -1,6 +1,6 @@
 //! The values that were given for an argument of a subcommand.
 
-ghost use Rattle.std.specs.Prelude.{◌≡◌, IfOk, IsSome, Some, map, option_map, string_bytes};
+ghost use Rattle.std.specs.Prelude.{◌≡◌, ◌==◌, IfOk, IsSome, Some, length, map, option_map, string_bytes};
 ghost use Rattle.clap.specs.Words.{found_of, first_of, rows_of};
 ghost use Rattle.program_arguments.specs.Values.{all_given, has_flag};
 
@@ -54,6 +54,16 @@ pub(crate) fn values(
     match arguments.get_strs(id) {
         Some(texts) => copied(alloc, texts),
         None => Ok(Vec::new(alloc)),
+    }
+}
+
+/// Whether an argument of several is given no value.
+pub(crate) fn lacks_values(arguments: &ArgMatches, id: &str) -> bool
+    ensures { result ≡ (length (all_given id.now (rows_of (found_of arguments.now))) == 0) }
+{
+    match arguments.get_strs(id) {
+        Some(texts) => texts.is_empty(),
+        None => true,
     }
 }
 

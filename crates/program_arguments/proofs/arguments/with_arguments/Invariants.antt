@@ -5,5 +5,5 @@ use Rattle.program_arguments.proofs.arguments.with_arguments.Given as goal
 
 abbrev pub invariant-loop-argument : goal.invariant-loop-argument
 invariant-loop-argument l = record {
-  made : (app : App) → IsCommandMade app l.fn.command → IsCommand (with_rules app (take l.argument-index l.arguments)) l.command;
+  made : (app : App) → IsCommand app l.fn.command → IsCommandMade (with_rules app (take l.argument-index l.arguments)) l.command;
 }

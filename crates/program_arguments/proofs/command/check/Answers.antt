@@ -1,4 +1,0 @@
-use Rattle.program_arguments.proofs.command.check.Goals as goal
-
-pub returns : goal.returns
-returns c = c.survey.ensures _ (c.with_arguments-command.ensures _ (c.begun.ensures.app, c.begun.ensures.local))
