@@ -1,3 +1,4 @@
 pub mod FilesOfEntries
 pub mod Moves
 pub mod Countdowns
+mod ReadBytes

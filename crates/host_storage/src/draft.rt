@@ -58,7 +58,16 @@ fn write_and_publish<D: Draft>(draft: &mut D, bytes: &[u8]) -> Result<(), HostFa
     ensures kept { OnErr result (exposed_content (D.place draft.new) ≡ exposed_content (D.place draft.old)) }
     ensures refused { IfErr result (λ fault. fault ≡ HostFault.Device) }
 {
-    draft.fill(bytes)?;
-    draft.sync()?;
+    write_and_sync(draft, bytes)?;
     draft.publish()
+}
+
+/// Writes the new file, and waits until the disk has it.
+fn write_and_sync<D: Draft>(draft: &mut D, bytes: &[u8]) -> Result<(), HostFault>
+    ensures synced { OnOk result (D.place draft.new ≡ option_map (λ place. synced_place (filled_place bytes.now place)) (D.place draft.old)) }
+    ensures kept { OnErr result (exposed_content (D.place draft.new) ≡ exposed_content (D.place draft.old)) }
+    ensures refused { IfErr result (λ fault. fault ≡ HostFault.Device) }
+{
+    draft.fill(bytes)?;
+    draft.sync()
 }

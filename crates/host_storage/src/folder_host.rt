@@ -1,6 +1,7 @@
 //! A host over the files of the system, in the current folder.
 
-ghost use Rattle.std.specs.Prelude.{◌≡◌, ◌≢◌, ◌+◌, ◌<◌, ◌≤◌, ◌↔◌, ◌++◌, length, vec_len, None, IfOk, IfErr, IfSome, OnOk, OnErr};
+ghost use Rattle.std.specs.Prelude.{◌≡◌, ◌≢◌, ◌+◌, ◌<◌, ◌≤◌, ◌↔◌, ◌++◌, length, take, vec_len, None, IfOk, IfErr, IfSome, OnOk, OnErr};
+ghost use Rattle.std.specs.Io.KnownBytes.{Consumes, IsAtEnd};
 ghost use Rattle.host_storage.specs.Folders.{failures_after_making};
 ghost use Rattle.host_storage.specs.Host.{failures_after};
 
@@ -267,13 +268,36 @@ fn read_to_end<F: Read>(
 {
     bytes.clear();
     for _ in 0..u64::MAX {
-        match file.read(buffer) {
-            Ok(0) => return Ok(()),
-            Ok(count) => add_piece(bytes, &buffer[..count], limit)?,
-            Err(_) => return Err(HostFault::Device),
+        if read_piece(file, buffer, limit, bytes)? == 0 {
+            return Ok(());
         }
     }
     unreachable!()
+}
+
+/// Appends what one read of a file gives, if there are at most `limit` bytes with it, and returns
+/// how many bytes that is: 0 at the end.
+fn read_piece<F: Read>(
+    file: &mut F,
+    buffer: &mut [u8],
+    limit: usize,
+    bytes: &mut Vec<u8>,
+) -> Result<usize, HostFault>
+    requires { vec_len bytes.old ≤ limit }
+    ensures buffer { length buffer.new ≡ length buffer.old }
+    ensures within { OnOk result (vec_len bytes.new ≤ limit) }
+    ensures more { IfOk result (λ count. vec_len bytes.new ≡ vec_len bytes.old + count) }
+    ensures read { IfOk result (λ count. bytes.new.items ≡ bytes.old.items ++ take count buffer.new × Consumes (F.remaining file.old) (F.remaining file.new) (take count buffer.new) × (count ≡ 0 → 0 < length buffer.new → IsAtEnd (F.remaining file.new))) }
+    ensures too_long { result ≡ Err HostFault.TooLong → IfSome (F.remaining file.old) (λ rest. limit < length bytes.old.items + length rest) }
+    ensures never_missing { result ≢ Err HostFault.Missing }
+{
+    let Ok(count) = file.read(buffer) else {
+        return Err(HostFault::Device);
+    };
+    match add_piece(bytes, &buffer[..count], limit) {
+        Ok(()) => Ok(count),
+        Err(fault) => Err(fault),
+    }
 }
 
 /// Appends a piece that was read, if there are at most `limit` bytes with it.

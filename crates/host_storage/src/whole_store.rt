@@ -141,12 +141,15 @@ where
     if is_file && !writes.limit.holds(rt, bytes.len() as u64) {
         return Err(HostFault::Device);
     }
-    match way_of(is_file, end.is_link(), end.has(&opened)) {
-        Way::InPlace => write_in_place(old, is_file, bytes)?,
-        Way::Replaced => replace_file(rt, alloc, old, end, bytes)?,
+    let outcome = match way_of(is_file, end.is_link(), end.has(&opened)) {
+        Way::InPlace => write_in_place(old, is_file, bytes),
+        Way::Replaced => replace_file(rt, alloc, old, end, bytes),
         Way::Again => return Ok(false),
+    };
+    match outcome {
+        Ok(()) => Ok(true),
+        Err(fault) => Err(fault),
     }
-    Ok(true)
 }
 
 impl End {
