@@ -57,9 +57,9 @@ one_piece before piece after = two_pieces before piece after (Text []) []
 abbrev pub plain_pieces : Bytes → List Piece
 plain_pieces text = two_pieces text (Text []) [] (Text []) []
 
--- the second argument of a line; the first if that is empty
+-- the second argument of a line, or the first if there is no second, counting the command too
 abbrev pub second_or_first : Said → Piece
-second_or_first said = if length said.second == 0 then First else Second
+second_or_first said = if nat_lt 2 said.count then Second else First
 
 -- the argument of a line that is the name of a file on the disk
 abbrev pub file_piece : Said → LineCommand → Piece

@@ -174,10 +174,10 @@ fn file_piece(said: &Said<'_>, command: LineCommand) -> Piece
     match command {
         LineCommand::Rename => Piece::Second,
         LineCommand::Crunch | LineCommand::Write => {
-            if said.second.is_empty() {
-                Piece::First
-            } else {
+            if said.count > 2 {
                 Piece::Second
+            } else {
+                Piece::First
             }
         }
         _ => Piece::First,
@@ -190,10 +190,10 @@ fn host_piece(said: &Said<'_>, command: LineCommand) -> Piece
 {
     match command {
         LineCommand::Read => {
-            if said.second.is_empty() {
-                Piece::First
-            } else {
+            if said.count > 2 {
                 Piece::Second
+            } else {
+                Piece::First
             }
         }
         _ => Piece::First,

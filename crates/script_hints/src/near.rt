@@ -1,6 +1,7 @@
 //! The command whose name is near one that is no command.
 
-/// The first command whose name is near.
+/// The command whose name differs in capital letters alone, or else the first one whose name is
+/// near.
 pub(crate) fn near_command(word: &[u8]) -> Option<&'static [u8]> {
     let words: [&'static [u8]; 21] = [
         b"block",
@@ -25,12 +26,16 @@ pub(crate) fn near_command(word: &[u8]) -> Option<&'static [u8]> {
         b"validate",
         b"write",
     ];
+    let mut near = None;
     for command in words {
-        if is_near(word, command) {
+        if word.eq_ignore_ascii_case(command) {
             return Some(command);
         }
+        if near.is_none() && is_near(word, command) {
+            near = Some(command);
+        }
     }
-    None
+    near
 }
 
 /// Whether a name is near that of a command.
