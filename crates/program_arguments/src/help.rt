@@ -153,9 +153,9 @@ Lines:   format NAME,ID         make the disk empty
          keep HOST              store the session, with its changes
          quit                   end the script
 
-IMAGE itself changes by the command `save` alone. With --resume, it isn't read,
-and `save` without a name stores there. The manual says more: `man d64sh`, or
-docs/MANUAL.md beside the source.";
+IMAGE changes by `save`, or if another command stores a file under its name.
+With --resume, it isn't read, and `save` without a name stores there. The manual
+says more: `man d64sh`, or docs/MANUAL.md beside the source.";
 
 const PETCAT_USAGE: &str = "d64sh petcat [-o FILE] [FILE]";
 
@@ -187,13 +187,13 @@ const CHECK_USAGE: &str = "d64sh check [--digest] [--format FORMAT] FILE..
 
 const CHECK_DETAILS: &str =
     "In:      images of 35 or 40 tracks, each with or without the read codes of its
-         blocks: files of 174,848, 175,531, 196,608 or 197,376 bytes
+         blocks: files of 174,848, 175,531, 196,608 or 197,376 bytes; or G64
 Out:     a line per image, then a line for each fault, each block with a read
          error and each file that isn't whole; with --format json an object a
          line, with --format csv a row an image
-Exit:    0 nothing is amiss; 1 an image has a fault, a read error or a file that
-         isn't whole; 2 an argument is wrong, a file is no image, or reading or
-         writing failed
+Exit:    0 nothing is amiss; 1 an image has a fault, a doubt, a read error or a
+         file that isn't whole; 2 an argument is wrong, a file is no image, or
+         reading or writing failed
 Example: d64sh check *.d64
 
 No image is ever written. The manual says more: `man d64sh`, or docs/MANUAL.md
@@ -204,7 +204,7 @@ const FILES_USAGE: &str = "d64sh files [--deleted] [--orphans] [--format FORMAT]
 
 const FILES_DETAILS: &str =
     "In:      images of 35 or 40 tracks, each with or without the read codes of its
-         blocks: files of 174,848, 175,531, 196,608 or 197,376 bytes
+         blocks: files of 174,848, 175,531, 196,608 or 197,376 bytes; or G64
 Out:     a line per file: its image, size, kind and name, and that it is whole
          or what is amiss; with --format json an object per line, with --format
          csv a row per file, both with the SHA-256 digest of what it holds
@@ -222,7 +222,7 @@ const EXTRACT_USAGE: &str = "d64sh extract [--into FOLDER] [--part] [--deleted] 
 
 const EXTRACT_DETAILS: &str =
     "In:      images of 35 or 40 tracks, each with or without the read codes of its
-         blocks: files of 174,848, 175,531, 196,608 or 197,376 bytes
+         blocks: files of 174,848, 175,531, 196,608 or 197,376 bytes; or G64
 Out:     a folder for each image, with its files and a list, `files.jsonl`; and
          what `files` prints, with the path of each file that was written
 Exit:    0 nothing is amiss; 1 a file isn't whole, or a directory is broken or
@@ -238,11 +238,11 @@ const MAP_USAGE: &str = "d64sh map [--format FORMAT] FILE";
 
 const MAP_DETAILS: &str =
     "In:      an image of 35 or 40 tracks, with or without the read codes of its
-         blocks: a file of 174,848, 175,531, 196,608 or 197,376 bytes
+         blocks: a file of 174,848, 175,531, 196,608 or 197,376 bytes; or G64
 Out:     a line per track with a character per sector, and what each character
          means; with --format svg a picture, with a colour for each file
-Exit:    0 nothing is amiss; 1 the image has a fault, a read error or a file
-         that isn't whole; 2 an argument is wrong, the file is no image, or
+Exit:    0 nothing is amiss; 1 the image has a fault, a doubt, a read error or a
+         file that isn't whole; 2 an argument is wrong, the file is no image, or
          reading or writing failed
 Example: d64sh map --format svg disk.d64 >disk.svg
 
@@ -253,12 +253,12 @@ const DIFF_USAGE: &str = "d64sh diff [--format FORMAT] OLD NEW";
 
 const DIFF_DETAILS: &str =
     "In:      two images of 35 or 40 tracks, each with or without the read codes of
-         its blocks: files of 174,848, 175,531, 196,608 or 197,376 bytes
+         its blocks: files of 174,848, 175,531, 196,608 or 197,376 bytes; or G64
 Out:     what changed from OLD to NEW, files first: lines with `-` for OLD and
          `+` for NEW, then the blocks that differ; with --format json an object
          a line
-Exit:    0 the files are the same in each byte; 1 they differ; 2 an argument is
-         wrong, a file is no image, or reading or writing failed
+Exit:    0 both files are the same dump; 1 they differ; 2 an argument is wrong,
+         a file is no image, or reading or writing failed
 Example: d64sh diff before.d64 after.d64
 
 No image is ever written. The manual says more: `man d64sh`, or docs/MANUAL.md
@@ -287,7 +287,7 @@ const CATALOGUE_USAGE: &str = "d64sh catalogue [--maps] [--title TEXT] [--links 
 
 const CATALOGUE_DETAILS: &str =
     "In:      images of 35 or 40 tracks, each with or without the read codes of its
-         blocks: files of 174,848, 175,531, 196,608 or 197,376 bytes
+         blocks: files of 174,848, 175,531, 196,608 or 197,376 bytes; or G64
 Out:     one HTML page with a section for each image: its name, what is wrong
          on it and its files, with a field to search them
 Exit:    0 nothing is amiss; 1 a file isn't whole, or a directory is broken or
