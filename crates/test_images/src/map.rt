@@ -8,6 +8,7 @@ use d64_map::{
     blocks_free, counts_fit, free_count, free_set, is_free, pick_dir, pick_first, pick_next,
     put_map,
 };
+use std::process::Abort;
 use std::test::Fail;
 
 /// How many blocks a disk of 35 tracks has.
@@ -29,13 +30,8 @@ fn all_blocks() -> BlockSet {
     blocks_between(0, BLOCKS_OF_35)
 }
 
-/// Returns the track and the sector at a place in the order of search on 35 tracks after a block:
-/// the one that is picked once all before it are taken.
-fn next_at(track: u8, sector: u8, place: usize) -> Option<(u8, u8)> {
-    next_of(all_blocks(), track, sector, place)
-}
-
-/// Returns the same among these blocks.
+/// Returns the track and the sector at a place in the order of search among these blocks after a
+/// block: the one that is picked once all before it are taken.
 fn next_of(all: BlockSet, track: u8, sector: u8, place: usize) -> Option<(u8, u8)> {
     let last = BlockNo::of(track, sector)?;
     let mut free = all;
@@ -119,33 +115,44 @@ fn with_fresh_map(rt: &HostRuntime, image: &mut Image) -> Result<[u8; 256], Fail
     Ok(*image.sector(block))
 }
 
+/// Tracks, and the entry of each in the map of a fresh disk.
+const ENTRIES: [(usize, [u8; 4]); 9] = [
+    (1, [0x15, 0xFF, 0xFF, 0x1F]),
+    (17, [0x15, 0xFF, 0xFF, 0x1F]),
+    (18, [0x11, 0xFC, 0xFF, 0x07]),
+    (19, [0x13, 0xFF, 0xFF, 0x07]),
+    (24, [0x13, 0xFF, 0xFF, 0x07]),
+    (25, [0x12, 0xFF, 0xFF, 0x03]),
+    (30, [0x12, 0xFF, 0xFF, 0x03]),
+    (31, [0x11, 0xFF, 0xFF, 0x01]),
+    (35, [0x11, 0xFF, 0xFF, 0x01]),
+];
+
+/// Whether bytes have these at a place.
+fn has_at(bytes: &[u8], place: usize, wanted: &[u8]) -> bool {
+    bytes
+        .get(place..)
+        .is_some_and(|rest| rest.starts_with(wanted))
+}
+
+/// Whether the counts of an image fit, and that of its tracks and that of the last ones are these.
+fn has_counts(image: &Image, all: u32, track: u8, of_track: u8) -> bool {
+    blocks_free(image) == all
+        && track > 0
+        && track <= image.tracks()
+        && free_count(image, track) == of_track
+        && counts_fit(image)
+}
+
 #[test]
 fn a_fresh_disk_has_the_map_of_the_manual(rt: HostRuntime) -> Result<(), Fail> {
     let mut image = Image::zeroed(rt.alloc())?;
     let map = with_fresh_map(&rt, &mut image)?;
-    let table = [
-        (1u8, [0x15, 0xFF, 0xFF, 0x1F]),
-        (17, [0x15, 0xFF, 0xFF, 0x1F]),
-        (18, [0x11, 0xFC, 0xFF, 0x07]),
-        (19, [0x13, 0xFF, 0xFF, 0x07]),
-        (24, [0x13, 0xFF, 0xFF, 0x07]),
-        (25, [0x12, 0xFF, 0xFF, 0x03]),
-        (30, [0x12, 0xFF, 0xFF, 0x03]),
-        (31, [0x11, 0xFF, 0xFF, 0x01]),
-        (35, [0x11, 0xFF, 0xFF, 0x01]),
-    ];
-    for (track, entry) in table {
-        let start = 4 * usize::from(track);
-        assert!(rt; start + 4 <= map.len());
-        let found = &map[start..start + 4];
-        assert!(rt; found == entry.as_slice(), "track {track}");
+    for row in ENTRIES {
+        assert!(rt; has_at(&map, 4 * row.0, &row.1), "{row:?}");
     }
-    assert!(rt; map[..4].iter().all(|byte| *byte == 0));
-    assert!(rt; map[144..].iter().all(|byte| *byte == 0));
-    assert_eq!(rt; blocks_free(&image), 664);
-    assert!(rt; 18 <= image.tracks());
-    assert_eq!(rt; free_count(&image, 18), 17);
-    assert!(rt; counts_fit(&image));
+    assert!(rt; has_at(&map, 0, &[0; 4]) && has_at(&map, 144, &[0; 112]));
+    assert!(rt; has_counts(&image, 664, 18, 17));
     Ok(())
 }
 
@@ -153,16 +160,11 @@ fn a_fresh_disk_has_the_map_of_the_manual(rt: HostRuntime) -> Result<(), Fail> {
 fn a_fresh_disk_of_40_tracks_has_five_entries_beyond_the_name(rt: HostRuntime) -> Result<(), Fail> {
     let mut image = Image::zeroed40(rt.alloc())?;
     let map = with_fresh_map(&rt, &mut image)?;
-    for entry in map[0xC0..0xD4].chunks(4) {
-        assert!(rt; entry == [0x11, 0xFF, 0xFF, 0x01].as_slice());
+    for place in [0xC0, 0xC4, 0xC8, 0xCC, 0xD0] {
+        assert!(rt; has_at(&map, place, &[0x11, 0xFF, 0xFF, 0x01]), "{place}");
     }
-    assert!(rt; map[0x90..0xC0].iter().all(|byte| *byte == 0));
-    assert!(rt; map[0xD4..].iter().all(|byte| *byte == 0));
-    assert_eq!(rt; blocks_free(&image), 749);
-    assert!(rt; 40 <= image.tracks());
-    assert_eq!(rt; free_count(&image, 36), 17);
-    assert_eq!(rt; free_count(&image, 40), 17);
-    assert!(rt; counts_fit(&image));
+    assert!(rt; has_at(&map, 0x90, &[0; 0x30]) && has_at(&map, 0xD4, &[0; 0x2C]));
+    assert!(rt; has_counts(&image, 749, 36, 17) && has_counts(&image, 749, 40, 17));
     Ok(())
 }
 
@@ -174,137 +176,175 @@ fn free_of(image: &Image) -> BlockSet
     free_set(image)
 }
 
-#[test]
-fn a_random_map_is_read_as_a_plain_count_reads_it(rt: HostRuntime) -> Result<(), Fail> {
-    let mut image = Image::zeroed(rt.alloc())?;
-    let block = BlockNo::of(18, 0).ok_or("no 18/0")?;
-    let mut patch = Patch::new(rt.alloc());
+/// Returns a block of bytes that look random.
+fn random_block() -> [u8; 256] {
     let mut noise = Noise { state: 1541 };
-    let mut old = [0; 256];
-    for byte in old.iter_mut() {
+    let mut block = [0; 256];
+    for byte in block.iter_mut() {
         *byte = noise.next();
     }
-    assert!(rt; image.holds(block));
-    patch.write(&mut image, block, &old)?;
+    block
+}
+
+/// Returns how many blocks a map's entry marks free, by the ones in its bytes.
+fn ones_of(entry: &[u8], track: usize) -> u32 {
+    let last = match track {
+        1..=17 => 0x1F,
+        18..=24 => 0x07,
+        25..=30 => 0x03,
+        _ => 0x01,
+    };
+    match entry {
+        [_, first, second, third] => (first.count_ones() + second.count_ones()).wrapping_add(
+            (third & last).count_ones(),
+        ),
+        _ => 0,
+    }
+}
+
+/// Returns how many blocks a map marks free, and the sum of its counts except that of track 18.
+fn sums_of(map: &[u8; 256]) -> (u32, u32) {
     let mut ones = 0u32;
     let mut counts = 0u32;
-    for track in 1..36 {
-        let last = match track {
-            1..=17 => 0x1F,
-            18..=24 => 0x07,
-            25..=30 => 0x03,
-            _ => 0x01,
-        };
-        let whole = old[4 * track + 1].count_ones() + old[4 * track + 2].count_ones();
-        ones = whole
-            .wrapping_add((old[4 * track + 3] & last).count_ones())
-            .wrapping_add(ones);
+    for (track, entry) in map.chunks(4).enumerate().take(36).skip(1) {
+        ones = ones_of(entry, track).wrapping_add(ones);
         if track != 18 {
-            counts = u32::from(old[4 * track]).wrapping_add(counts);
+            counts = entry
+                .first()
+                .map_or(0, |count| u32::from(*count))
+                .wrapping_add(counts);
         }
     }
-    let free = free_of(&image);
-    assert_eq!(rt; free.count(), ones as usize);
-    assert_eq!(rt; blocks_free(&image), counts);
-    assert!(rt; !counts_fit(&image));
+    (ones, counts)
+}
+
+/// Checks that an image with this block as its map is read as a plain count reads it, and that its
+/// counts are right after what was read is written.
+fn is_read(
+    rt: &impl Abort,
+    image: &mut Image,
+    patch: &mut Patch,
+    map: &[u8; 256],
+) -> Result<(), Fail> {
+    let block = BlockNo::of(18, 0).ok_or("no 18/0")?;
     assert!(rt; image.holds(block));
-    assert_eq!(rt; is_free(&image, block), old[4 * 18 + 1] & 1 == 1);
-    put_map(&mut image, &mut patch, &free)?;
-    assert!(rt; counts_fit(&image));
-    assert!(rt; free_set(&image) == free);
+    patch.write(image, block, map)?;
+    assert!(rt; image.holds(block));
+    assert!(rt; is_free(image, block) == (map[4 * 18 + 1] & 1 == 1));
+    let free = free_of(image);
+    assert!(rt; (free.count() as u32, blocks_free(image)) == sums_of(map));
+    assert!(rt; !counts_fit(image));
+    put_map(image, patch, &free)?;
+    assert!(rt; counts_fit(image) && free_set(image) == free);
     Ok(())
 }
 
 #[test]
-fn next_blocks_come_in_the_written_order(rt: HostRuntime) {
-    let table = [
-        (17, 0, 0, 17, 10),
-        (17, 0, 1, 17, 11),
-        (17, 0, 11, 17, 0),
-        (17, 0, 21, 16, 0),
-        (17, 0, 357, 19, 0),
-        (17, 0, 663, 35, 16),
-        (18, 18, 0, 17, 0),
-        (18, 18, 21, 19, 0),
-        (18, 18, 40, 16, 0),
-        (18, 18, 663, 35, 16),
-        (19, 0, 0, 19, 10),
-        (19, 0, 9, 19, 0),
-        (19, 0, 19, 20, 0),
-        (19, 0, 663, 1, 20),
-        (1, 20, 0, 1, 8),
-        (1, 20, 13, 1, 0),
-        (1, 20, 21, 19, 0),
-        (1, 20, 663, 2, 20),
-        (35, 16, 0, 35, 8),
-        (35, 16, 9, 35, 0),
-        (35, 16, 17, 17, 0),
-        (35, 16, 663, 34, 16),
-        (1, 11, 0, 1, 0),
-    ];
-    for (track, sector, place, want_track, want_sector) in table {
-        assert_eq!(rt;
-            next_at(track, sector, place),
-            Some((want_track, want_sector)),
-            "place {place} after {track}/{sector}"
+fn a_random_map_is_read_as_a_plain_count_reads_it(rt: HostRuntime) -> Result<(), Fail> {
+    let mut image = Image::zeroed(rt.alloc())?;
+    is_read(
+        &rt,
+        &mut image,
+        &mut Patch::new(rt.alloc()),
+        &random_block(),
+    )
+}
+
+/// A block, a place in the order of search after it, and the track and the sector at that place.
+type Searched = (u8, u8, usize, u8, u8);
+
+/// On 35 tracks.
+const NEXT: [Searched; 23] = [
+    (17, 0, 0, 17, 10),
+    (17, 0, 1, 17, 11),
+    (17, 0, 11, 17, 0),
+    (17, 0, 21, 16, 0),
+    (17, 0, 357, 19, 0),
+    (17, 0, 663, 35, 16),
+    (18, 18, 0, 17, 0),
+    (18, 18, 21, 19, 0),
+    (18, 18, 40, 16, 0),
+    (18, 18, 663, 35, 16),
+    (19, 0, 0, 19, 10),
+    (19, 0, 9, 19, 0),
+    (19, 0, 19, 20, 0),
+    (19, 0, 663, 1, 20),
+    (1, 20, 0, 1, 8),
+    (1, 20, 13, 1, 0),
+    (1, 20, 21, 19, 0),
+    (1, 20, 663, 2, 20),
+    (35, 16, 0, 35, 8),
+    (35, 16, 9, 35, 0),
+    (35, 16, 17, 17, 0),
+    (35, 16, 663, 34, 16),
+    (1, 11, 0, 1, 0),
+];
+
+/// On 40 tracks.
+const NEXT_OF_40: [Searched; 10] = [
+    (17, 0, 663, 35, 16),
+    (17, 0, 664, 36, 0),
+    (17, 0, 748, 40, 16),
+    (18, 18, 663, 35, 16),
+    (18, 18, 664, 36, 0),
+    (18, 18, 748, 40, 16),
+    (35, 16, 17, 36, 0),
+    (35, 16, 102, 17, 0),
+    (36, 16, 85, 17, 0),
+    (40, 16, 748, 39, 16),
+];
+
+/// Checks that each block comes at its place among these blocks.
+fn come_in_order(rt: &impl Abort, all: BlockSet, rows: &[Searched]) {
+    for row in rows {
+        assert!(rt;
+            next_of(all, row.0, row.1, row.2) == Some((row.3, row.4)),
+            "{row:?}"
         );
     }
-    assert_eq!(rt; next_at(17, 0, 664), None);
+}
+
+#[test]
+fn next_blocks_come_in_the_written_order(rt: HostRuntime) {
+    come_in_order(&rt, all_blocks(), &NEXT);
+    assert!(rt; next_of(all_blocks(), 17, 0, 664).is_none());
 }
 
 #[test]
 fn tracks_36_to_40_come_in_the_written_order(rt: HostRuntime) {
-    let table = [
-        (17, 0, 663, 35, 16),
-        (17, 0, 664, 36, 0),
-        (17, 0, 748, 40, 16),
-        (18, 18, 663, 35, 16),
-        (18, 18, 664, 36, 0),
-        (18, 18, 748, 40, 16),
-        (35, 16, 17, 36, 0),
-        (35, 16, 102, 17, 0),
-        (36, 16, 85, 17, 0),
-        (40, 16, 748, 39, 16),
-    ];
-    for (track, sector, place, want_track, want_sector) in table {
-        assert_eq!(rt;
-            next_of(blocks_between(0, BLOCKS), track, sector, place),
-            Some((want_track, want_sector)),
-            "place {place} after {track}/{sector}"
-        );
-    }
-    assert_eq!(rt; next_of(blocks_between(0, BLOCKS), 17, 0, 749), None);
+    come_in_order(&rt, blocks_between(0, BLOCKS), &NEXT_OF_40);
+    assert!(rt; next_of(blocks_between(0, BLOCKS), 17, 0, 749).is_none());
 }
+
+/// A block, a place in the order of search after it for the directory, and the sector there.
+const DIRECTORY: [(u8, u8, usize, u8); 9] = [
+    (18, 1, 0, 4),
+    (18, 1, 1, 5),
+    (18, 1, 15, 0),
+    (18, 1, 18, 3),
+    (18, 18, 0, 1),
+    (18, 18, 18, 0),
+    (18, 16, 0, 0),
+    (17, 3, 0, 0),
+    (17, 3, 18, 18),
+];
 
 #[test]
 fn directory_blocks_come_in_the_written_order(rt: HostRuntime) {
-    let table = [
-        (18, 1, 0, 4),
-        (18, 1, 1, 5),
-        (18, 1, 15, 0),
-        (18, 1, 18, 3),
-        (18, 18, 0, 1),
-        (18, 18, 18, 0),
-        (18, 16, 0, 0),
-        (17, 3, 0, 0),
-        (17, 3, 18, 18),
-    ];
-    for (track, sector, place, want) in table {
-        assert_eq!(rt;
-            dir_at(track, sector, place),
-            Some((18, want)),
-            "place {place} after {track}/{sector}"
-        );
+    for row in DIRECTORY {
+        assert!(rt; dir_at(row.0, row.1, row.2) == Some((18, row.3)), "{row:?}");
     }
-    assert_eq!(rt; dir_at(18, 1, 19), None);
+    assert!(rt; dir_at(18, 1, 19).is_none());
+}
+
+/// Returns the track and the sector of the first block that is picked.
+fn first_of(free: &BlockSet) -> Option<(u8, u8)> {
+    pick_first(free).map(|block| (block.track(), block.sector()))
 }
 
 #[test]
 fn the_first_pick_is_the_nearest(rt: HostRuntime) {
-    let first = pick_first(&all_blocks()).map(|block| (block.track(), block.sector()));
-    assert_eq!(rt; first, Some((17, 0)));
-    let beyond = blocks_between(BLOCKS_OF_35, BLOCKS);
-    let last = pick_first(&beyond).map(|block| (block.track(), block.sector()));
-    assert_eq!(rt; last, Some((36, 0)));
-    assert_eq!(rt; pick_first(&BlockSet::empty()), None);
+    assert!(rt; first_of(&all_blocks()) == Some((17, 0)));
+    assert!(rt; first_of(&blocks_between(BLOCKS_OF_35, BLOCKS)) == Some((36, 0)));
+    assert!(rt; first_of(&BlockSet::empty()).is_none());
 }
