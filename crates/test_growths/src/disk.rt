@@ -61,9 +61,10 @@ pub fn fresh(alloc: Global, _image: &Image) -> Patch
 }
 
 /// Changes the image by a command, and forgets what was there before.
-fn make(alloc: Global, image: &mut Image, command: &Command) -> Result<(), Fail> {
-    within(image, command)?;
-    apply(image, &mut Patch::new(alloc), command)?;
+fn make(alloc: Global, image: &mut Image, command: Result<Command, Fail>) -> Result<(), Fail> {
+    let command = command?;
+    within(image, &command)?;
+    apply(image, &mut Patch::new(alloc), &command)?;
     Ok(())
 }
 
@@ -77,33 +78,44 @@ pub fn format() -> Result<Command, Fail> {
 
 /// Returns the command that writes a file.
 pub fn write(alloc: Global, name: &[u8], bytes: &[u8]) -> Result<Command, Fail> {
+    let name = Name::new(name)?;
+    let bytes = Vec::from_slice(alloc, bytes)?;
     Ok(Command::Write {
-        name: Name::new(name)?,
+        name,
         kind: Kind::Prg,
-        bytes: Vec::from_slice(alloc, bytes)?,
+        bytes,
     })
 }
 
 /// Bytes that fill ten blocks of a file.
-pub fn ten_blocks(alloc: Global) -> Result<Vec<u8>, Fail> {
-    Ok(vec![in alloc; 7; 2540]?)
-}
+pub const TEN_BLOCKS: &[u8; 2540] = &[7; 2540];
 
-/// A sound disk with the file `A` of ten blocks from 17/0 on, the file `B` of one, which was never
-/// closed, and in the eighth slot what is left of the file `C` of one, which was deleted.
-pub fn disk(alloc: Global) -> Result<Image, Fail> {
-    let mut image = Image::zeroed(alloc)?;
-    make(alloc, &mut image, &format()?)?;
-    make(alloc, &mut image, &write(alloc, b"A", &ten_blocks(alloc)?)?)?;
-    make(alloc, &mut image, &write(alloc, b"B", &[7])?)?;
-    let first = block_in(&image, 18, 1)?;
+/// Changes the first block of the directory: the file of the second slot was never closed, and in
+/// the eighth slot is what is left of a file `C`, which was deleted.
+fn spoil(alloc: Global, image: &mut Image) -> Result<(), Fail> {
+    let first = block_in(image, 18, 1)?;
     let mut directory = *image.sector(first);
     directory[0x22] = 0x02;
     directory[0xE3] = 1;
     directory[0xE5] = b'C';
     directory[0xE6..0xF5].fill(0xA0);
     directory[0xFE] = 1;
-    Patch::new(alloc).write(&mut image, first, &directory)?;
+    Ok(Patch::new(alloc).write(image, first, &directory)?)
+}
+
+/// Makes a blank image the disk.
+fn fill(alloc: Global, image: &mut Image) -> Result<(), Fail> {
+    make(alloc, image, format())?;
+    make(alloc, image, write(alloc, b"A", TEN_BLOCKS))?;
+    make(alloc, image, write(alloc, b"B", &[7]))?;
+    spoil(alloc, image)
+}
+
+/// A sound disk with the file `A` of ten blocks from 17/0 on, the file `B` of one, which was never
+/// closed, and in the eighth slot what is left of the file `C` of one, which was deleted.
+pub fn disk(alloc: Global) -> Result<Image, Fail> {
+    let mut image = Image::zeroed(alloc)?;
+    fill(alloc, &mut image)?;
     Ok(image)
 }
 

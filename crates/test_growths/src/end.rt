@@ -1,7 +1,7 @@
 //! The bench on which a call is made, and how the call ends.
 
 use std::alloc::Global;
-use std::{fmt, io};
+use std::fmt;
 
 /// The bench on which a call is made: the runtime, and the name of the call.
 #[derive(Drop)]
@@ -31,10 +31,11 @@ impl<'a> Bench<'a> {
         }
     }
 
-    /// Prints the name of the call: all that it is lent was made.
-    pub fn begin(&self) -> io::Result<()> {
+    /// Prints the name of the call: all that it is lent was made. If that fails, the output is not
+    /// the expected one.
+    pub fn begin(&self) {
         let name = self.name;
-        print!(self.rt; "{name}: ")
+        let _ = print!(self.rt; "{name}: ");
     }
 }
 
@@ -42,7 +43,7 @@ impl<'a> Bench<'a> {
 #[derive(Drop)]
 pub enum End {
     /// It takes no memory, and returned what it should.
-    Answered,
+    Returned,
     /// It was accepted.
     Accepted,
     /// It made this many bytes.
@@ -50,7 +51,7 @@ pub enum End {
     /// It changed this many blocks of an image.
     Changed(usize),
     /// It returned that memory ran out, and left all that it was lent as it should.
-    WantOfMemory,
+    OutOfMemory,
     /// It refused what it was given.
     Refused,
     /// Something is wrong after it.
@@ -59,18 +60,18 @@ pub enum End {
 
 impl End {
     /// Returns the end of a call that takes no memory, by whether it returned what it should.
-    pub fn answered(is_right: bool) -> End {
+    pub fn returned(is_right: bool) -> End {
         if is_right {
-            End::Answered
+            End::Returned
         } else {
-            End::Wrong("the answer")
+            End::Wrong("what it returned")
         }
     }
 
     /// Returns the end of a call that ran out of memory, by whether all is left as it should be.
-    pub fn want_of_memory(is_left: bool, what: &'static str) -> End {
+    pub fn out_of_memory(is_left: bool, what: &'static str) -> End {
         if is_left {
-            End::WantOfMemory
+            End::OutOfMemory
         } else {
             End::Wrong(what)
         }
@@ -80,11 +81,11 @@ impl End {
 impl fmt::Display for End {
     fn fmt<W: fmt::Write>(&self, f: &mut fmt::Formatter<W>) -> fmt::Result {
         match self {
-            End::Answered => write!(f, "answered"),
+            End::Returned => write!(f, "returned"),
             End::Accepted => write!(f, "accepted"),
             End::Made(bytes) => write!(f, "made {bytes} bytes"),
             End::Changed(blocks) => write!(f, "changed {blocks} blocks"),
-            End::WantOfMemory => write!(f, "want of memory"),
+            End::OutOfMemory => write!(f, "out of memory"),
             End::Refused => write!(f, "refused"),
             End::Wrong(what) => write!(f, "WRONG: {what}"),
         }

@@ -13,6 +13,7 @@ mod disk;
 mod end;
 mod hosts;
 mod images;
+mod looks;
 mod scripts;
 mod sessions;
 mod texts;
@@ -21,8 +22,13 @@ mod words;
 mod writers;
 
 use end::{Bench, End};
+use hosts::HostCall;
+use images::Maker;
+use looks::Look;
 use std::env;
 use std::test::Fail;
+use texts::TextCall;
+use writers::Writer;
 
 fn main(rt: HostRuntime) -> Result<(), Fail> {
     for name in env::args(&rt)?.skip(1) {
@@ -35,41 +41,49 @@ fn main(rt: HostRuntime) -> Result<(), Fail> {
 /// Makes the call that the bench names, and returns how it ended.
 fn end_of_call(bench: &Bench) -> Result<End, Fail> {
     let (call, given) = bench.words();
+    if let Some(call) = Look::of(call) {
+        return looks::looked_at(bench, call);
+    }
+    if let Some(writer) = Writer::of(call) {
+        return writers::written(bench, writer);
+    }
+    if let Some(maker) = Maker::of(call) {
+        return images::made(bench, maker);
+    }
+    if let Some(call) = HostCall::of(call) {
+        return hosts::called(bench, call);
+    }
+    if let Some(call) = TextCall::of(call) {
+        return Ok(texts::made(bench, call));
+    }
+    end_of_other(bench, call, given)
+}
+
+/// Makes a call of those that share nothing that they are lent.
+fn end_of_other(bench: &Bench, call: &str, given: &str) -> Result<End, Fail> {
     match call {
-        "Image::from_bytes" => images::from_bytes(bench),
-        "Image::zeroed" => images::zeroed(bench),
-        "Image::zeroed40" => images::zeroed40(bench),
-        "Image::try_clone" => images::try_clone(bench),
         "Patch::write" => images::patch_write(bench),
-        "put_map" => writers::map(bench),
-        "put_entry" => writers::entry(bench),
-        "clear_slot" => writers::cleared_slot(bench),
-        "set_type" => writers::file_type(bench),
-        "set_name" => writers::name(bench),
-        "put_chain" => writers::chain(bench),
-        "grow" => writers::growth(bench),
-        "content" => commands::content(bench),
         "apply" => commands::apply(bench, given),
-        "read" => commands::read(bench),
-        "listing" => commands::listing(bench),
-        "Session::run" => sessions::run(bench, given),
-        "Session::new,run" => sessions::first_block_write(bench),
-        "Session::keep" => sessions::keep(bench),
-        "resume" => sessions::resume(bench),
-        "resume_from" => sessions::resume_from(bench),
-        "to_text" => texts::to_text(bench),
-        "from_text" => texts::from_text(bench),
-        "crunch" => texts::crunch(bench),
-        "list" => texts::list(bench),
-        "MemoryHost::put" => hosts::put(bench),
-        "MemoryHost::fetch" => hosts::fetch(bench),
-        "MemoryHost::open" => hosts::open(bench),
-        "MemoryHost::store" => hosts::store(bench),
+        "MemoryHost::put" => Ok(hosts::put(bench)),
         "run" => scripts::run(bench, given),
         "petcat_run" => scripts::petcat_run(bench),
         "crunch_run" => scripts::crunch_run(bench),
-        "ShellFault,ToolFault,JobFault,ProgramFault" => scripts::fault_texts(bench),
+        "ShellFault,ToolFault,JobFault,ProgramFault" => Ok(scripts::fault_texts(bench)),
         "job" => words::job(bench, given),
-        _ => without_memory::end_of_call(bench),
+        _ => end_of_session_call(bench, call, given),
+    }
+}
+
+/// Makes a call of a session, or one that takes no memory.
+fn end_of_session_call(bench: &Bench, call: &str, given: &str) -> Result<End, Fail> {
+    match call {
+        "Session::run" => sessions::run(bench, given),
+        "Session::new,run" => sessions::first_block_write(bench),
+        "Session::keep" => sessions::keep(bench),
+        "resume" => sessions::resumed(bench, false),
+        "resume_from" => sessions::resumed(bench, true),
+        "Session::new" => sessions::begun(bench),
+        "Session" => sessions::without_memory(bench),
+        _ => without_memory::end_of_call(bench, call),
     }
 }

@@ -7,10 +7,12 @@ use crate::sessions::Beside;
 use crate::texts::{START, TEXT};
 use cbm_text::{BasicFault, ListFault};
 use cmd_basic::ToolFault;
+use host_storage::MemoryHost;
 use program_arguments::JobFault;
 use program_console::ProgramFault;
 use script_run::{Outcome, ShellFault};
 use std::alloc::{AllocError, Global};
+use std::fmt::Display;
 use std::test::Fail;
 
 /// The bytes of a buffer for all that a call writes, so that its writer asks for no memory.
@@ -19,23 +21,33 @@ const ROOM: usize = 16_384;
 /// The output of a line that is refused memory.
 const OUT_OF_MEMORY: &[u8; 23] = b"90,OUT OF MEMORY,00,00\n";
 
-/// Runs a script of one line.
+/// Runs a script of one line, which writes into this buffer.
+fn play(
+    bench: &Bench,
+    line: &str,
+    beside: &mut Beside,
+    host: &mut MemoryHost,
+    written: &mut Vec<u8>,
+) -> End {
+    let mut script = line.as_bytes();
+    bench.begin();
+    let answer = script_run::run(
+        bench.alloc(),
+        &mut script,
+        written,
+        host,
+        "one",
+        &mut beside.session,
+    );
+    let is_kept = hosts::is_as_it_was(host) && beside.is_as_it_was();
+    end_of(answer, written.as_slice(), is_kept)
+}
+
 pub fn run(bench: &Bench, line: &str) -> Result<End, Fail> {
     let mut beside = Beside::new(bench.alloc())?;
     let mut host = host(bench.alloc())?;
     let mut written = Vec::with_capacity(bench.alloc(), ROOM)?;
-    let mut script = line.as_bytes();
-    bench.begin()?;
-    let answer = script_run::run(
-        bench.alloc(),
-        &mut script,
-        &mut written,
-        &mut host,
-        "one",
-        &mut beside.session,
-    );
-    let is_kept = hosts::is_as_it_was(&host) && beside.is_as_it_was();
-    Ok(end_of(answer, written.as_slice(), is_kept))
+    Ok(play(bench, line, &mut beside, &mut host, &mut written))
 }
 
 /// Returns how a script of one line ended, by its result, what it wrote, and whether host and
@@ -49,11 +61,11 @@ fn end_of(answer: Result<Outcome, ShellFault>, written: &[u8], is_kept: bool) ->
             },
         ) => End::Made(written.len()),
         Ok(_) if written == OUT_OF_MEMORY.as_slice() => {
-            End::want_of_memory(is_kept, "the host or the session is not as it was")
+            End::out_of_memory(is_kept, "the host or the session is not as it was")
         }
-        Err(ShellFault::Memory(_)) => End::want_of_memory(
+        Err(ShellFault::Memory(_)) => End::out_of_memory(
             is_kept && written.is_empty(),
-            "the host or the session is not as it was, or there is an answer",
+            "the host or the session is not as it was, or something was written",
         ),
         Ok(_) | Err(ShellFault::Read | ShellFault::Write) => End::Refused,
     }
@@ -62,7 +74,7 @@ fn end_of(answer: Result<Outcome, ShellFault>, written: &[u8], is_kept: bool) ->
 pub fn petcat_run(bench: &Bench) -> Result<End, Fail> {
     let mut written = Vec::with_capacity(bench.alloc(), ROOM)?;
     let mut input = PROGRAM.as_slice();
-    bench.begin()?;
+    bench.begin();
     let answer = cmd_basic::petcat_run(bench.alloc(), &mut input, &mut written);
     Ok(end_of_tool(answer, written.as_slice()))
 }
@@ -70,7 +82,7 @@ pub fn petcat_run(bench: &Bench) -> Result<End, Fail> {
 pub fn crunch_run(bench: &Bench) -> Result<End, Fail> {
     let mut written = Vec::with_capacity(bench.alloc(), ROOM)?;
     let mut input = TEXT.as_slice();
-    bench.begin()?;
+    bench.begin();
     let answer = cmd_basic::crunch_run(bench.alloc(), START, &mut input, &mut written);
     Ok(end_of_tool(answer, written.as_slice()))
 }
@@ -80,7 +92,7 @@ fn end_of_tool(answer: Result<(), ToolFault>, written: &[u8]) -> End {
     match answer {
         Ok(()) => End::Made(written.len()),
         Err(ToolFault::Memory(_)) => {
-            End::want_of_memory(written.is_empty(), "something was written")
+            End::out_of_memory(written.is_empty(), "something was written")
         }
         Err(_) => End::Refused,
     }
@@ -108,48 +120,62 @@ write fault
 out of memory
 ";
 
-/// Returns the texts of the faults of scripts, tools, arguments and the program, one on each line.
+/// Adds the texts of faults, one on each line.
+fn add<D: Display>(text: &mut String, faults: &[D]) -> Result<(), AllocError> {
+    for fault in faults {
+        write!(text, "{fault}\n")?;
+    }
+    Ok(())
+}
+
+/// Adds the texts of the faults of scripts, tools, arguments and the program.
+fn add_all(text: &mut String) -> Result<(), AllocError> {
+    add(
+        text,
+        &[
+            ShellFault::Read,
+            ShellFault::Write,
+            ShellFault::Memory(AllocError),
+        ],
+    )?;
+    add(
+        text,
+        &[
+            ToolFault::Read,
+            ToolFault::Write,
+            ToolFault::Memory(AllocError),
+            ToolFault::Text(BasicFault::ZeroByte { line: 3 }),
+            ToolFault::NotBasic(ListFault::Truncated),
+        ],
+    )?;
+    add(text, &[JobFault::Start, JobFault::Tracks, JobFault::Both])?;
+    add(
+        text,
+        &[
+            ProgramFault::UnreadableWords,
+            ProgramFault::WrongLength(9),
+            ProgramFault::UnreadableImage,
+            ProgramFault::UnreadableSession,
+            ProgramFault::NoSession(2),
+            ProgramFault::Read,
+            ProgramFault::Write,
+            ProgramFault::Memory,
+        ],
+    )
+}
+
+/// Returns the texts of these faults, one on each line.
 fn shown_faults(alloc: Global) -> Result<String, AllocError> {
     let mut text = String::new(alloc);
-    for fault in [
-        ShellFault::Read,
-        ShellFault::Write,
-        ShellFault::Memory(AllocError),
-    ] {
-        write!(text, "{fault}\n")?;
-    }
-    for fault in [
-        ToolFault::Read,
-        ToolFault::Write,
-        ToolFault::Memory(AllocError),
-        ToolFault::Text(BasicFault::ZeroByte { line: 3 }),
-        ToolFault::NotBasic(ListFault::Truncated),
-    ] {
-        write!(text, "{fault}\n")?;
-    }
-    for fault in &[JobFault::Start, JobFault::Tracks, JobFault::Both] {
-        write!(text, "{fault}\n")?;
-    }
-    for fault in [
-        ProgramFault::UnreadableWords,
-        ProgramFault::WrongLength(9),
-        ProgramFault::UnreadableImage,
-        ProgramFault::UnreadableSession,
-        ProgramFault::NoSession(2),
-        ProgramFault::Read,
-        ProgramFault::Write,
-        ProgramFault::Memory,
-    ] {
-        write!(text, "{fault}\n")?;
-    }
+    add_all(&mut text)?;
     Ok(text)
 }
 
-pub fn fault_texts(bench: &Bench) -> Result<End, Fail> {
-    bench.begin()?;
-    Ok(match shown_faults(bench.alloc()) {
+pub fn fault_texts(bench: &Bench) -> End {
+    bench.begin();
+    match shown_faults(bench.alloc()) {
         Ok(text) if text.as_str() == FAULT_TEXTS => End::Made(text.len()),
         Ok(_) => End::Wrong("a text"),
-        Err(_) => End::WantOfMemory,
-    })
+        Err(_) => End::OutOfMemory,
+    }
 }

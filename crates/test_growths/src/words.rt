@@ -7,11 +7,11 @@ use std::test::Fail;
 /// Reads the job of some arguments, the first of which is the program's name.
 pub fn job(bench: &Bench, words: &str) -> Result<End, Fail> {
     let words: Vec<&str> = words.split(' ').collect(bench.alloc())?;
-    bench.begin()?;
+    bench.begin();
     Ok(
         match program_arguments::job(bench.alloc(), words.as_slice()) {
             Ok(_) => End::Accepted,
-            Err(JobFault::Memory) => End::WantOfMemory,
+            Err(JobFault::Memory) => End::OutOfMemory,
             Err(_) => End::Refused,
         },
     )

@@ -3,7 +3,9 @@
 //! After memory ran out some blocks may be written; with the patch put back the image is the one
 //! from before in any case.
 ghost use Rattle.std.specs.Prelude.{◌≢◌, ◌<◌, [], length, IfOk};
+ghost use Rattle.d64_files.specs.Chain.{LieIn};
 ghost use Rattle.d64_files.specs.Directory.{directory, slots};
+ghost use Rattle.d64_image.specs.BlockSet.{MembersAreBelow};
 ghost use Rattle.d64_image.specs.Patch.{IsPatchOf};
 
 use crate::disk::{block, block_in, changed_blocks, disk, fresh, same};
@@ -11,10 +13,38 @@ use crate::end::{Bench, End};
 use d64_files::{
     Kind, Name, Pattern, SlotNo, clear_slot, find, grow, put_chain, put_entry, set_name, set_type,
 };
-use d64_image::{BlockSet, Image, Patch};
+use d64_image::{BlockNo, BlockSet, Image, Patch};
 use d64_map::put_map;
 use std::alloc::AllocError;
 use std::test::Fail;
+
+/// A call of a writer.
+#[derive(Clone, Copy)]
+pub enum Writer {
+    Map,
+    Entry,
+    ClearedSlot,
+    Type,
+    Name,
+    /// A file of five blocks.
+    Chain,
+    Growth,
+}
+
+impl Writer {
+    pub fn of(call: &str) -> Option<Writer> {
+        match call {
+            "put_map" => Some(Writer::Map),
+            "put_entry" => Some(Writer::Entry),
+            "clear_slot" => Some(Writer::ClearedSlot),
+            "set_type" => Some(Writer::Type),
+            "set_name" => Some(Writer::Name),
+            "put_chain" => Some(Writer::Chain),
+            "grow" => Some(Writer::Growth),
+            _ => None,
+        }
+    }
+}
 
 /// Returns how a writer ended, by its result, what it was lent, and the image before.
 fn end_of(
@@ -32,100 +62,72 @@ fn end_of(
     }
     match answer {
         Ok(()) => End::Changed(changed),
-        Err(_) => End::WantOfMemory,
+        Err(_) => End::OutOfMemory,
     }
 }
 
 /// Returns the slot of the file `A`.
-fn slot_of_a(image: &Image) -> Result<SlotNo, Fail>
+pub fn slot_of_a(image: &Image) -> Result<SlotNo, Fail>
     ensures directory { IfOk result (λ _. directory image.now ≢ []) }
     ensures slot { IfOk result (λ slot. slot < length (slots image.now)) }
 {
-    let a = Pattern::new(b"A")?;
-    match find(image, &a) {
+    match find(image, &Pattern::new(b"A")?) {
         Ok(Some(slot)) => Ok(slot),
         Ok(None) => Err(Fail::new("there is no file")),
         Err(fault) => Err(Fail::new(fault)),
     }
 }
 
-pub fn map(bench: &Bench) -> Result<End, Fail> {
-    let mut image = disk(bench.alloc())?;
-    let before = image.try_clone(bench.alloc())?;
-    let mut patch = fresh(bench.alloc(), &image);
-    bench.begin()?;
-    let answer = put_map(&mut image, &mut patch, &BlockSet::empty());
-    Ok(end_of(answer, &mut image, &mut patch, &before))
+/// Returns five blocks of the image.
+fn five_blocks(image: &Image) -> Result<[BlockNo; 5], Fail>
+    ensures { IfOk result (λ blocks. LieIn image.now blocks) }
+{
+    Ok([
+        block_in(image, 1, 0)?,
+        block_in(image, 2, 0)?,
+        block_in(image, 3, 0)?,
+        block_in(image, 4, 0)?,
+        block_in(image, 5, 0)?,
+    ])
 }
 
-pub fn entry(bench: &Bench) -> Result<End, Fail> {
-    let mut image = disk(bench.alloc())?;
-    let before = image.try_clone(bench.alloc())?;
-    let mut patch = fresh(bench.alloc(), &image);
-    let slot = slot_of_a(&image)?;
-    let name = Name::new(b"Y")?;
-    let first = block(17, 0)?;
-    bench.begin()?;
-    let answer = put_entry(&mut image, &mut patch, slot, &name, Kind::Seq, first, 1);
-    Ok(end_of(answer, &mut image, &mut patch, &before))
+/// Returns no blocks.
+fn no_blocks(_image: &Image) -> BlockSet
+    ensures { MembersAreBelow (length _image.now) result }
+{
+    BlockSet::empty()
 }
 
-pub fn cleared_slot(bench: &Bench) -> Result<End, Fail> {
-    let mut image = disk(bench.alloc())?;
-    let before = image.try_clone(bench.alloc())?;
-    let mut patch = fresh(bench.alloc(), &image);
-    let slot = slot_of_a(&image)?;
-    bench.begin()?;
-    let answer = clear_slot(&mut image, &mut patch, slot);
-    Ok(end_of(answer, &mut image, &mut patch, &before))
+/// Makes the call of a writer with an empty patch.
+fn write(
+    bench: &Bench,
+    writer: Writer,
+    image: &mut Image,
+    patch: &mut Patch,
+) -> Result<Result<(), AllocError>, Fail>
+    requires { IsPatchOf image.old patch.old }
+    ensures { IfOk result (λ _. IsPatchOf image.new patch.new) }
+{
+    let slot = slot_of_a(image)?;
+    let (name, first) = (Name::new(b"Y")?, block(17, 0)?);
+    let (five, new) = (five_blocks(image)?, block_in(image, 18, 4)?);
+    let free = no_blocks(image);
+    bench.begin();
+    Ok(match writer {
+        Writer::Map => put_map(image, patch, &free),
+        Writer::Entry => put_entry(image, patch, slot, &name, Kind::Seq, first, 1),
+        Writer::ClearedSlot => clear_slot(image, patch, slot),
+        Writer::Type => set_type(image, patch, slot, Kind::Seq),
+        Writer::Name => set_name(image, patch, slot, &name),
+        Writer::Chain => put_chain(image, patch, &five, &[1; 1270]),
+        Writer::Growth => grow(image, patch, new),
+    })
 }
 
-pub fn file_type(bench: &Bench) -> Result<End, Fail> {
+pub fn written(bench: &Bench, writer: Writer) -> Result<End, Fail> {
     let mut image = disk(bench.alloc())?;
     let before = image.try_clone(bench.alloc())?;
     let mut patch = fresh(bench.alloc(), &image);
-    let slot = slot_of_a(&image)?;
-    bench.begin()?;
-    let answer = set_type(&mut image, &mut patch, slot, Kind::Seq);
-    Ok(end_of(answer, &mut image, &mut patch, &before))
-}
-
-pub fn name(bench: &Bench) -> Result<End, Fail> {
-    let mut image = disk(bench.alloc())?;
-    let before = image.try_clone(bench.alloc())?;
-    let mut patch = fresh(bench.alloc(), &image);
-    let slot = slot_of_a(&image)?;
-    let name = Name::new(b"Y")?;
-    bench.begin()?;
-    let answer = set_name(&mut image, &mut patch, slot, &name);
-    Ok(end_of(answer, &mut image, &mut patch, &before))
-}
-
-/// Writes a file of five blocks.
-pub fn chain(bench: &Bench) -> Result<End, Fail> {
-    let mut image = disk(bench.alloc())?;
-    let before = image.try_clone(bench.alloc())?;
-    let mut patch = fresh(bench.alloc(), &image);
-    let blocks = [
-        block_in(&image, 1, 0)?,
-        block_in(&image, 2, 0)?,
-        block_in(&image, 3, 0)?,
-        block_in(&image, 4, 0)?,
-        block_in(&image, 5, 0)?,
-    ];
-    let bytes = [1; 1270];
-    bench.begin()?;
-    let answer = put_chain(&mut image, &mut patch, &blocks, &bytes);
-    Ok(end_of(answer, &mut image, &mut patch, &before))
-}
-
-pub fn growth(bench: &Bench) -> Result<End, Fail> {
-    let mut image = disk(bench.alloc())?;
-    let before = image.try_clone(bench.alloc())?;
-    let mut patch = fresh(bench.alloc(), &image);
-    let _slot = slot_of_a(&image)?;
-    let new = block_in(&image, 18, 4)?;
-    bench.begin()?;
-    let answer = grow(&mut image, &mut patch, new);
+    let answer = write(bench, writer, &mut image, &mut patch)?;
     Ok(end_of(answer, &mut image, &mut patch, &before))
 }
