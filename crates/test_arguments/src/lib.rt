@@ -1,7 +1,7 @@
-//! Tests of the program's arguments through the public calls of `program_arguments`: what no
-//! contract says, such as texts, and examples with values from the specification.
+//! Tests of the program's arguments: the jobs that they ask for, and texts.
 //!
-//! They are in a crate of their own, since a crate with tests is proved twice.
+//! They are in a crate of their own, since a crate with tests is proved twice. What a contract says
+//! is not tested again, and what a script can reach is a worked example.
 #![tactic(auto)]
 
 #[cfg(test)]

@@ -1,6 +1,7 @@
-//! Tests of the files that `extract` writes of an image, on a host in memory.
+//! Tests of `extract` on a host in memory whose calls fail.
 //!
-//! They are in a crate of their own, since a crate with tests is proved twice.
+//! They are in a crate of their own, since a crate with tests is proved twice. What a contract says
+//! is not tested again, and what a script can reach is a worked example.
 #![tactic(auto)]
 
 #[cfg(test)]

@@ -28,28 +28,6 @@ fn refuses_each_forbidden_byte(rt: HostRuntime) {
 }
 
 #[test]
-fn says_what_is_wrong(rt: HostRuntime) -> Result<(), Fail> {
-    let messages = [
-        (
-            BadName::Empty,
-            "the name is empty: it needs 1 to 16 characters",
-        ),
-        (
-            BadName::TooLong,
-            "the name is too long: at most 16 characters fit",
-        ),
-        (
-            BadName::Forbidden,
-            "a name can't hold = : , \" or a carriage return or shifted space, and only a pattern can hold * or ?",
-        ),
-    ];
-    for (fault, message) in messages {
-        assert_eq!(rt; fault.to_string(rt.alloc())?.as_str(), message);
-    }
-    Ok(())
-}
-
-#[test]
 fn matches_by_wildcards(rt: HostRuntime) {
     let cases = [
         (&b"a*"[..], &b"ab"[..], true),
