@@ -7,8 +7,8 @@ use Rattle.d64_survey.specs.Inspection.{is_amiss}
 use Rattle.program_arguments.specs.declared.jobs.Format.{Format}
 use Rattle.program_arguments.specs.declared.jobs.Format.TheVariants.{Text, Json, Csv}
 use Rattle.out_json_csv.specs.Values.{line_of}
-use Rattle.out_json_csv.specs.Checks.{check_object, check_row}
-use Rattle.out_json_csv.specs.Rows.{header_row, unanswered_row}
+use Rattle.cmd_check.specs.Checks.{check_object, check_row}
+use Rattle.cmd_check.specs.CheckRows.{header_row, unanswered_row}
 use Rattle.out_json_csv.specs.Unanswered.{unread_object, no_dump_object, no_dump_error}
 use Rattle.out_messages.specs.CheckText.{check_text}
 use Rattle.program_batch.specs.Answers.{Rule}

@@ -1,1 +1,6 @@
+pub mod Owners
+pub mod Findings
+pub mod CheckRows
+pub mod Doubts
+pub mod Checks
 pub mod Check

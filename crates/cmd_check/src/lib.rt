@@ -3,5 +3,11 @@
 #![tactic(auto)]
 
 mod check_printer;
+mod csv_line;
+mod doubt;
+mod finding;
+mod json_line;
+mod owner;
+mod row;
 
 pub use check_printer::CheckPrinter;

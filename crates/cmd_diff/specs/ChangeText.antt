@@ -12,7 +12,7 @@ use Rattle.d64_files.specs.DiskHeader.{disk_dos}
 use Rattle.out_messages.specs.CheckText.{label_text}
 use Rattle.host_names.specs.Shown.{shown_name}
 use Rattle.out_messages.specs.Words.{counted_text, block_text}
-use Rattle.cmd_files.specs.FileTable.{slot_line}
+use Rattle.out_files.specs.FileTable.{slot_line}
 use Rattle.cmd_diff.specs.Changes.{DumpChange, DiskChanged, Added, Removed, FileChanged, BlocksChanged, CodesChanged}
 
 -- whether there are read codes

@@ -11,9 +11,9 @@ use Rattle.d64_survey.specs.Dump.{DumpView, is_read_error}
 use Rattle.d64_survey.specs.Owners.{way_slots}
 use Rattle.d64_survey.specs.ReadErrors.{code_of}
 use Rattle.d64_inventory.specs.Rows.{FileRowView, row_at}
-use Rattle.out_json_csv.specs.Checks.{label_members}
+use Rattle.out_json_csv.specs.Names.{label_members}
 use Rattle.out_json_csv.specs.Values.{Field, object_of, numeral, line_of}
-use Rattle.cmd_files.specs.FileObject.{file_members}
+use Rattle.out_files.specs.FileObject.{file_members}
 
 -- a change from an old dump to a new one
 pub data DumpChange : Type 0 where

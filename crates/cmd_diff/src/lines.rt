@@ -1,16 +1,16 @@
 //! What is printed of a change for people.
 ghost use Rattle.std.specs.Prelude.{◌≡◌, ◌++◌, OnOk};
 ghost use Rattle.std.specs.List.{flat_map};
-ghost use Rattle.cmd_files.specs.FileTable.{slot_line};
+ghost use Rattle.out_files.specs.FileTable.{slot_line};
 ghost use Rattle.cmd_diff.specs.ChangeText.{read_codes_text, dos_text, tracks_text, free_text, disk_size_text, disk_line, old_line, new_line, same_line, both_lines, listed_block, blocks_line, heading};
 
-use cmd_files::push_file_line;
 use d64_files::disk_dos;
 use d64_image::{BlockNo, Image};
 use d64_inventory::FileRow;
 use d64_map::blocks_free;
 use d64_survey::Inspection;
 use host_names::push_shown;
+use out_files::push_file_line;
 use out_messages::{push_block, push_count, push_label, push_number};
 use petscii::push_spelling;
 use std::alloc::AllocError;

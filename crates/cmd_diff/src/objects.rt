@@ -3,20 +3,18 @@ ghost use Rattle.std.specs.Prelude.{◌≡◌, [], ◌∷◌, ◌++◌, map, cod
 ghost use Rattle.json.specs.Json.{string};
 ghost use Rattle.out_json_csv.specs.Pairs.{block_field as block_text_of};
 ghost use Rattle.out_json_csv.specs.Values.{Prints, PrintsMembers, array_of, line_of};
-ghost use Rattle.out_json_csv.specs.Checks.{label_members};
 ghost use Rattle.cmd_diff.specs.Changes.{DiskChanged, size_members, free_members, disk_object, entry_object};
 ghost use Rattle.cmd_diff.specs.ChangeObject.{change_member, entry_value, changed_slot_members, changed_entry_members, slot_object, disk_members, block_value, blocks_member, blocks_object, change_object};
 
 use arrayvec::ArrayString;
-use cmd_files::put_file_members;
-use d64_files::{disk_dos, disk_id, disk_name};
 use d64_image::{BlockNo, Image};
 use d64_inventory::FileRow;
 use d64_map::blocks_free;
 use d64_survey::Inspection;
 use itoa::Buffer;
 use json::Writer;
-use out_json_csv::{into_line, put_boolean, put_name, put_null, put_number, put_text};
+use out_files::put_file_members;
+use out_json_csv::{into_line, put_boolean, put_label, put_null, put_number, put_text};
 use std::alloc::AllocError;
 
 /// The most bytes of a pair's text: two numbers below 256, and a slash.
@@ -28,15 +26,6 @@ fn put_size(writer: &mut Writer, all: &Inspection) -> Result<(), AllocError>
 {
     put_number(writer, "tracks", u64::from(all.image().tracks()))?;
     put_boolean(writer, "codes", all.codes().is_some())
-}
-
-/// Prints the disk's name, its id and its DOS version.
-fn put_label(scratch: &mut Vec<u8>, writer: &mut Writer, image: &Image) -> Result<(), AllocError>
-    ensures { PrintsMembers result writer.old writer.new (label_members image.now) }
-{
-    put_name(scratch, writer, "name", disk_name(image))?;
-    put_name(scratch, writer, "id", disk_id(image))?;
-    put_name(scratch, writer, "dos", disk_dos(image))
 }
 
 /// Prints how many blocks are free.

@@ -12,11 +12,11 @@ use crate::lines::{
 };
 use crate::objects::{blocks_json, disks_json, slot_json};
 use crate::slots::slot_count;
-use cmd_files::push_file_line;
 use d64_files::SlotNo;
 use d64_image::BlockNo;
 use d64_inventory::{FileRow, Inventory};
 use d64_survey::Inspection;
+use out_files::push_file_line;
 use program_arguments::DiffForm;
 use std::alloc::AllocError;
 use std::mem;

@@ -11,8 +11,9 @@ use Rattle.cmd_extract_contents.specs.RowPortions.{row_portion}
 use Rattle.cmd_extract_contents.specs.Limits.{left_after, portion_within}
 use Rattle.cmd_extract_contents.specs.declared.extent.Extent.{Extent}
 use Rattle.out_messages.specs.FaultLines.{too_much_line}
-use Rattle.cmd_files.specs.Files.{after_rows}
-use Rattle.cmd_files.specs.Extracts.{as_json, printed_file}
+use Rattle.out_files.specs.Forms.{after_rows}
+use Rattle.cmd_extract.specs.Extracts.{printed_file}
+use Rattle.out_files.specs.Forms.{as_json}
 use Rattle.cmd_extract.specs.Setup.{TaskView}
 use Rattle.host_names.specs.Paths.{path_in}
 use Rattle.cmd_extract.specs.Progress.{Progress, portion_of, row_name, reported_progress, spent_progress, named_progress, written_progress, unwritten_progress}

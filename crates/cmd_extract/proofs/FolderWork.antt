@@ -4,7 +4,7 @@ use Rattle.program_batch.specs.Reasons.{IsWriteReason}
 use Rattle.program_batch.specs.declared.reason.Reason.{Reason}
 use Rattle.host_storage.specs.Files.{HostState}
 use Rattle.d64_leftovers.specs.Rows.{wanted_rows}
-use Rattle.cmd_files.specs.Selections.{files_and}
+use Rattle.out_files.specs.Forms.{files_and}
 use Rattle.cmd_extract.specs.Setup.{TaskView, list_in}
 use Rattle.host_names.specs.Paths.{path_inside}
 use Rattle.cmd_extract.specs.Progress.{Progress, progress_before_files}

@@ -14,7 +14,7 @@ use Rattle.program_batch.specs.Answers.{Answer}
 use Rattle.program_batch.specs.declared.report.Verdict.TheVariants.{Clean, Amiss, Failed}
 use Rattle.host_names.specs.ImagePlace.{folders_of}
 use Rattle.d64_inventory.specs.ListingAmiss.{is_listing_amiss}
-use Rattle.cmd_files.specs.Selections.{files_and}
+use Rattle.out_files.specs.Forms.{files_and}
 use Rattle.cmd_extract.specs.Setup.{ExtractSetupView, TaskView, list_in}
 use Rattle.host_names.specs.Paths.{path_inside, with_slash, path_in}
 use Rattle.cmd_extract.specs.Work.{Work, Done, Then, Why, Look, Rename, DoesWork}

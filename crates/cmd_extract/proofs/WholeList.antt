@@ -18,8 +18,9 @@ use Rattle.host_names.specs.HostName.{ending_text, part_ending, tail}
 use Rattle.host_names.specs.TakenNames.{next_name}
 use Rattle.host_names.proofs.Tails.{rests, not_ended}
 use Rattle.host_names.proofs.SafeNames.{name_ends}
-use Rattle.cmd_files.specs.Extracts.{as_json, printed_file}
-use Rattle.cmd_files.specs.Selections.{files_and}
+use Rattle.cmd_extract.specs.Extracts.{printed_file}
+use Rattle.out_files.specs.Forms.{as_json}
+use Rattle.out_files.specs.Forms.{files_and}
 use Rattle.cmd_extract.specs.Setup.{TaskView, list_path}
 use Rattle.host_names.specs.Paths.{path_in, with_slash}
 use Rattle.cmd_extract_contents.specs.HostFileNames.{ending_by, is_part, host_name_of_row}

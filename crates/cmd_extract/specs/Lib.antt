@@ -1,3 +1,5 @@
+pub mod Extracted
+pub mod Extracts
 pub mod Setup
 pub mod Work
 pub mod Progress

@@ -3,7 +3,8 @@ use Rattle.std.specs.Prelude.{ℕ, bytes_eq, if◌then◌else◌, List, [], ◌�
 use Rattle.d64_leftovers.specs.declared.row.ListedRow.{ListedRow}
 use Rattle.cmd_extract_contents.specs.Portions.{Portion}
 use Rattle.cmd_extract_contents.specs.Limits.{left_after, portion_within}
-use Rattle.cmd_files.specs.Extracts.{as_json, printed_file}
+use Rattle.cmd_extract.specs.Extracts.{printed_file}
+use Rattle.out_files.specs.Forms.{as_json}
 use Rattle.cmd_extract.specs.Setup.{TaskView}
 use Rattle.host_names.specs.Paths.{path_in}
 use Rattle.cmd_extract.specs.Work.{Work, Done, Then, Why, HostCall, Look, Folder, NewFolder, NewFile, MoreOfFile, Rename}

@@ -16,8 +16,9 @@ use Rattle.host_names.specs.declared.ending.Ending.TheVariants as endings
 use Rattle.program_batch.specs.Reasons.{with_known_reason}
 use Rattle.program_batch.specs.declared.reason.Reason.{Reason}
 use Rattle.out_messages.specs.FaultLines.{unwritten_line}
-use Rattle.cmd_files.specs.Files.{before_rows}
-use Rattle.cmd_files.specs.Extracts.{as_json, printed_file}
+use Rattle.out_files.specs.Forms.{before_rows}
+use Rattle.cmd_extract.specs.Extracts.{printed_file}
+use Rattle.out_files.specs.Forms.{as_json}
 use Rattle.cmd_extract.specs.Setup.{TaskView, list_path}
 use Rattle.host_names.specs.Paths.{path_in}
 use Rattle.cmd_extract.specs.declared.list_state.ListState.{ListState}

@@ -1,7 +1,7 @@
 -- The options of an extraction, and an image that is unpacked.
 use Rattle.std.specs.Prelude.{ℕ, Bool, List, codes}
 use Rattle.d64_survey.specs.Dump.{DumpView}
-use Rattle.cmd_files.specs.declared.form.Form.{Form}
+use Rattle.out_files.specs.declared.form.Form.{Form}
 use Rattle.host_names.specs.Paths.{path_in}
 
 -- the options: the folder below which all is written, whether parts are written too, whether

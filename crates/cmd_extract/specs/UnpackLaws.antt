@@ -3,7 +3,7 @@ use Rattle.std.specs.Prelude.{◌≡◌, false, [], Some}
 use Rattle.program_batch.specs.Answers.{KeepsQuiet}
 use Rattle.d64_leftovers.specs.Rows.{wanted_rows}
 use Rattle.cmd_extract_contents.specs.Limits.{limit}
-use Rattle.cmd_files.specs.Selections.{files_and}
+use Rattle.out_files.specs.Forms.{files_and}
 use Rattle.cmd_extract.specs.Setup.{ExtractSetupView, TaskView, list_path}
 use Rattle.cmd_extract.specs.Unpacking.{folder_work}
 use Rattle.cmd_extract.specs.ListedLines.{all_into, lines_of_rows}

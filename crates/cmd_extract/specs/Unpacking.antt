@@ -10,9 +10,9 @@ use Rattle.cmd_extract_contents.specs.Portions.{Portion}
 use Rattle.cmd_extract_contents.specs.Limits.{portion_within}
 use Rattle.d64_g64.specs.DumpOf.{dump_of}
 use Rattle.out_messages.specs.FaultLines.{unread_line, wrong_length_line, unwritten_line, present_line, skipped_line, too_much_line}
-use Rattle.cmd_files.specs.Files.{after_rows}
-use Rattle.cmd_files.specs.Selections.{files_and}
-use Rattle.cmd_files.specs.Extracts.{printed_error, printed_length}
+use Rattle.out_files.specs.Forms.{after_rows}
+use Rattle.out_files.specs.Forms.{files_and}
+use Rattle.cmd_extract.specs.Extracts.{printed_error, printed_length}
 use Rattle.program_batch.specs.Answers.{Answer}
 use Rattle.program_batch.specs.Reasons.{with_known_reason}
 use Rattle.program_batch.specs.declared.reason.Reason.{Reason}

@@ -7,10 +7,10 @@ ghost use Rattle.cmd_extract.specs.FilesNow.{progress_of_files};
 ghost use Rattle.program_batch.specs.Reasons.{with_known_reason};
 ghost use Rattle.cmd_extract.specs.Unpacking.{refused_answer, unread_answer, wrong_length_answer, present_answer, skipped_answer, unmade_answer, unnamed_answer, unfinished_answer, finished_answer};
 
+use crate::extract_printing::{print_error, print_length};
 use crate::files::Files;
 use crate::setup::{ExtractSetup, Task};
 use cmd_extract_contents::ContentExtraction;
-use cmd_files::{print_error, print_length};
 use d64_inventory::is_amiss;
 use out_json_csv::{IS_THERE, Scratch, UNREAD, UNWRITTEN};
 use out_messages::{present_line, skipped_line, unread_line, unwritten_line, wrong_length_line};

@@ -4,6 +4,8 @@
 
 mod answering;
 mod calls;
+mod extract_printing;
+mod extracted;
 mod files;
 mod folders;
 mod list_state;

@@ -1,16 +1,18 @@
 //! What is printed of the files of an image, collected as they are written.
 ghost use Rattle.std.specs.Prelude.{◌≡◌, ◌++◌, [], Option, option_map, false, true, OnOk};
-ghost use Rattle.cmd_files.specs.Files.{before_rows, after_rows};
-ghost use Rattle.cmd_files.specs.Extracts.{as_json, printed_file};
+ghost use Rattle.out_files.specs.Forms.{before_rows, after_rows};
+ghost use Rattle.cmd_extract.specs.Extracts.{printed_file};
+ghost use Rattle.out_files.specs.Forms.{as_json};
 ghost use Rattle.out_messages.specs.FaultLines.{unwritten_line};
 ghost use Rattle.program_batch.specs.Reasons.{with_known_reason};
 ghost use Rattle.cmd_extract.specs.declared.list_state.ListState.TheVariants.{New as not_there};
 
 use crate::answering::add_unwritten;
+use crate::extract_printing::print_file;
 use crate::list_state::ListState;
 use crate::setup::Task;
-use cmd_files::{print_after, print_before, print_file};
 use d64_leftovers::ListedRow;
+use out_files::{print_after, print_before};
 use out_json_csv::Scratch;
 use program_batch::Reason;
 use std::alloc::{AllocError, Global};

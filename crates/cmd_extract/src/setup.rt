@@ -1,7 +1,7 @@
 //! `ExtractSetup`: the options of `extract`; and `Task`: an image whose folder is to be made.
 
-use cmd_files::Form;
 use d64_survey::Inspection;
+use out_files::Form;
 use std::alloc::Global;
 use std::marker::Model;
 

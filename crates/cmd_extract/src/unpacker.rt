@@ -5,9 +5,9 @@ ghost use Rattle.cmd_extract.specs.Work.{EndsWork};
 ghost use Rattle.cmd_extract.specs.Unpacking.{task_work, task_of, unpacking};
 
 use crate::answering::{report_unread, report_wrong_length};
+use crate::extract_printing::print_extract_heading;
 use crate::files::Files;
 use crate::setup::{ExtractSetup, Task};
-use cmd_files::print_extract_heading;
 use d64_g64::refill_from;
 use d64_image::Image;
 use d64_survey::{Dump, DumpFault, Fault, Inspection, ReadError};
@@ -117,7 +117,7 @@ impl Unpacker {
 impl FileTask for Unpacker {
     ghost use Rattle.cmd_extract.specs.Setup.{ExtractSetupView};
     ghost use Rattle.cmd_extract.specs.Effects.{unpacks};
-    ghost use Rattle.cmd_files.specs.Extracts.{extract_heading};
+    ghost use Rattle.cmd_extract.specs.Extracts.{extract_heading};
 
     ghost Options = { ExtractSetupView };
 

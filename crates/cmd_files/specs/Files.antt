@@ -14,12 +14,13 @@ use Rattle.out_json_csv.specs.Values.{line_of}
 use Rattle.out_json_csv.specs.Unanswered.{unread_object, no_dump_object, no_dump_error}
 use Rattle.program_batch.specs.Answers.{Rule}
 use Rattle.program_surveys.specs.Printings.{Printing, survey_rule}
-use Rattle.cmd_files.specs.CsvRow.{csv_row, file_header_row, unanswered_file_row}
-use Rattle.cmd_files.specs.FileTable.{head_line, missing_lines}
-use Rattle.cmd_files.specs.Selections.{files_alone, deleted_alone, orphans_alone, files_and}
-use Rattle.cmd_files.specs.RowObject.{row_object}
-use Rattle.cmd_files.specs.RowText.{line_of_row}
-use Rattle.cmd_files.specs.declared.form.Form.{Form}
+use Rattle.out_files.specs.CsvRow.{csv_row, file_header_row, unanswered_file_row}
+use Rattle.out_files.specs.FileTable.{head_line, missing_lines}
+use Rattle.cmd_files.specs.Selections.{files_alone, deleted_alone, orphans_alone}
+use Rattle.out_files.specs.Forms.{files_and, before_rows, after_rows}
+use Rattle.out_files.specs.RowObject.{row_object}
+use Rattle.out_files.specs.RowText.{line_of_row}
+use Rattle.out_files.specs.declared.form.Form.{Form}
 use Rattle.cmd_files.specs.declared.printing.Section.{Section}
 use Rattle.cmd_files.specs.declared.printing.Section.TheVariants.{Deleted, Orphans}
 
@@ -32,18 +33,6 @@ row_printed Csv leftovers name image row = csv_row leftovers name row
 -- the same in a form
 abbrev pub printed_row : Form → Bytes → Disk → ListedRow → List ℕ
 printed_row form name image row = row_printed form.format form.leftovers name image row
-
--- what is printed of an image before its files
-abbrev pub before_rows : Format → Bytes → Disk → List ℕ
-before_rows Text name image = head_line name image
-before_rows Json name image = []
-before_rows Csv name image = []
-
--- what is printed of an image after its files
-abbrev pub after_rows : Format → DumpView → List ℕ
-after_rows Text dump = missing_lines dump
-after_rows Json dump = []
-after_rows Csv dump = []
 
 -- what is printed of the rows of a dump that are wanted, in their order
 unfoldable pub printed_rows : Form → Selection → Bytes → DumpView → List ℕ

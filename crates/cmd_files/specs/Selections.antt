@@ -1,6 +1,5 @@
 -- Which rows of a dump are printed together.
 use Rattle.std.specs.Prelude.{true, false}
-use Rattle.program_arguments.specs.declared.jobs.Leftovers.{Leftovers}
 use Rattle.d64_leftovers.specs.declared.selection.Selection.{Selection}
 
 -- the rows of files alone, those of deleted files alone, and those of orphans alone
@@ -12,7 +11,3 @@ deleted_alone = record { files = false; deleted = true; orphans = false }
 
 abbrev pub orphans_alone : Selection
 orphans_alone = record { files = false; deleted = false; orphans = true }
-
--- the rows of files, and of what is wanted beside them
-abbrev pub files_and : Leftovers → Selection
-files_and leftovers = record { files = true; deleted = leftovers.deleted; orphans = leftovers.orphans }

@@ -2,11 +2,10 @@
 ghost use Rattle.std.specs.Prelude.{◌≡◌};
 ghost use Rattle.cmd_files.specs.Files.{files_printing};
 
-use crate::csv_line::{files_header, no_dump_file_csv, unread_file_csv};
-use crate::form::Form;
 use crate::printing::print_dump;
 use d64_inventory::is_amiss;
 use d64_survey::Inspection;
+use out_files::{Form, files_header, no_dump_file_csv, unread_file_csv};
 use out_json_csv::{Scratch, no_dump_json, unread_json};
 use program_arguments::Format;
 use program_surveys::Printer;

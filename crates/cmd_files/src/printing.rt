@@ -1,16 +1,11 @@
 //! Printing the files of an image, in one of the three formats.
 ghost use Rattle.std.specs.Prelude.{◌≡◌, ◌++◌, IfOk, OnOk, length};
-ghost use Rattle.cmd_files.specs.Files.{printed_row, before_rows, after_rows, printed_rows, under_heading, is_section_wanted, section_rows, section_heading, section_of, all_rows, printed_of};
+ghost use Rattle.cmd_files.specs.Files.{printed_row, printed_rows, under_heading, is_section_wanted, section_rows, section_heading, section_of, all_rows, printed_of};
+ghost use Rattle.out_files.specs.Forms.{before_rows, after_rows};
 
-use crate::csv_line::row_csv;
-use crate::form::Form;
-use crate::json_line::row_json;
-use crate::missing::push_missing_lines;
-use crate::row_text::push_row_line;
-use crate::table::push_head_line;
-use d64_image::Image;
 use d64_leftovers::{ListedRow, RowList, Selection};
 use d64_survey::{Inspection, Survey};
+use out_files::{Form, print_after, print_before, push_row_line, row_csv, row_json};
 use out_json_csv::Scratch;
 use program_arguments::{Format, Leftovers};
 use std::alloc::AllocError;
@@ -166,31 +161,6 @@ fn print_all_rows(
             print_section(form, Section::Orphans, scratch, name, all, files)
         }
         Format::Json | Format::Csv => { print_rows(form, form.wanted(), scratch, name, all, out) }
-    }
-}
-
-/// Appends what is printed of an image before its files.
-pub fn print_before(
-    form: Format,
-    name: &[u8],
-    image: &Image,
-    out: &mut Vec<u8>,
-) -> Result<(), AllocError>
-    ensures { OnOk result (out.new.items ≡ out.old.items ++ before_rows form name.now image.now) }
-{
-    match form {
-        Format::Text => push_head_line(out, name, image),
-        Format::Json | Format::Csv => Ok(()),
-    }
-}
-
-/// Appends what is printed of an image after its files.
-pub fn print_after(form: Format, all: &Inspection, out: &mut Vec<u8>) -> Result<(), AllocError>
-    ensures { OnOk result (out.new.items ≡ out.old.items ++ after_rows form all.now) }
-{
-    match form {
-        Format::Text => push_missing_lines(out, all),
-        Format::Json | Format::Csv => Ok(()),
     }
 }
 

@@ -15,8 +15,8 @@ use Rattle.program_arguments.specs.declared.jobs.Leftovers.{Leftovers}
 use Rattle.program_batch.specs.Answers.{Rule}
 use Rattle.cmd_check.specs.Check.{check_rule, heading_of as check_heading}
 use Rattle.cmd_files.specs.Files.{files_rule, file_heading_of as files_heading}
-use Rattle.cmd_files.specs.Extracts.{extract_heading}
-use Rattle.cmd_files.specs.declared.form.Form.{Form}
+use Rattle.cmd_extract.specs.Extracts.{extract_heading}
+use Rattle.out_files.specs.declared.form.Form.{Form}
 use Rattle.cmd_extract.specs.Setup.{ExtractSetupView}
 use Rattle.cmd_map.specs.Pictures.{map_rule}
 use Rattle.cmd_catalogue.specs.Catalogue.{catalogue_rule, catalogue_heading}

@@ -3,7 +3,7 @@ ghost use Rattle.std.specs.Prelude.{◌≡◌};
 ghost use Rattle.d64_shell.specs.Jobs.{setup_of};
 
 use cmd_extract::ExtractSetup;
-use cmd_files::Form;
+use out_files::Form;
 use program_arguments::Extraction;
 
 /// Returns the options of an extraction that the arguments give, in a form of the output.

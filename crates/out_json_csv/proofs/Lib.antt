@@ -1,5 +1,4 @@
 pub mod AsciiTexts
 pub mod Arrays
 pub mod Objects
-pub mod EndedRows
 pub mod HostFields

@@ -70,3 +70,11 @@ impl CsvRow {
         }
     }
 }
+
+/// Appends a row, whose last field is an error, to a text.
+pub fn end_row(row: &mut CsvRow, error: &[u8], out: Vec<u8>) -> Result<Vec<u8>, AllocError>
+    ensures { IfOk result (λ text. text.items ≡ out.items ++ row_text default_writer (row.old ++ error.now ∷ [])) }
+{
+    row.push_field(error)?;
+    row.write(out)
+}

@@ -1,7 +1,7 @@
 //! Each call of the host fails in turn.
 
 use cmd_extract::{ExtractSetup, Unpacker};
-use cmd_files::Form;
+use out_files::Form;
 use host_storage::{Host, MemoryHost};
 use program_arguments::{Format, Leftovers};
 use program_batch::{FileTask, ReportBuffer, Verdict};

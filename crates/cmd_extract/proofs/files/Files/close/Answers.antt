@@ -1,6 +1,6 @@
 use Rattle.std.proofs.Common.{rules, ◌≡◌, ◌++◌}
 use Rattle.out_messages.specs.FaultLines.{too_much_line}
-use Rattle.cmd_files.specs.Files.{after_rows}
+use Rattle.out_files.specs.Forms.{after_rows}
 use Rattle.cmd_extract.specs.FilesNow.{progress_of_files}
 use Rattle.cmd_extract.proofs.FileSteps.{closed_over, closed_within}
 use Rattle.cmd_extract.proofs.files.Files.close.Goals as goal

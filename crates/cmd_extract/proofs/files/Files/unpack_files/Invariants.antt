@@ -1,5 +1,5 @@
 use Rattle.d64_leftovers.specs.Rows.{wanted_rows}
-use Rattle.cmd_files.specs.Selections.{files_and}
+use Rattle.out_files.specs.Forms.{files_and}
 use Rattle.cmd_extract.specs.Work.{LeadsTo}
 use Rattle.cmd_extract.specs.Progress.{progress_before_files}
 use Rattle.cmd_extract.specs.FilesNow.{progress_of_files}

@@ -6,7 +6,7 @@ use Rattle.cmd_extract.specs.FilesNow.{progress_of_files}
 use Rattle.cmd_extract.specs.Unpacking.{name_work, unmade_work, folder_work, files_work, list_work}
 use Rattle.cmd_extract.proofs.Steps.{stops, further, ends_after, ends_not}
 use Rattle.d64_leftovers.specs.Rows.{wanted_rows}
-use Rattle.cmd_files.specs.Selections.{files_and}
+use Rattle.out_files.specs.Forms.{files_and}
 use Rattle.cmd_extract.proofs.FolderWork.{made, not_made}
 use Rattle.cmd_extract.proofs.FileSteps.{listed_after}
 use Rattle.cmd_extract.proofs.setup.Task.unpack_folder.Goals as goal

@@ -4,7 +4,7 @@ use Rattle.script_text.specs.Input.{reading_of}
 use Rattle.std.proofs.lemmas.Result.{IfOk-weaker}
 use Rattle.cmd_check.specs.Check.{check_printing, check_rule, heading_of as check_heading}
 use Rattle.cmd_files.specs.Files.{files_printing, files_rule, file_heading_of as files_heading}
-use Rattle.cmd_files.specs.Extracts.{extract_heading}
+use Rattle.cmd_extract.specs.Extracts.{extract_heading}
 use Rattle.cmd_map.specs.Pictures.{map_printing, map_rule}
 use Rattle.cmd_catalogue.specs.Catalogue.{catalogue_printing, catalogue_rule, catalogue_heading}
 use Rattle.cmd_catalogue.specs.declared.catalogue_printer.CataloguePrinter.{CataloguePrinter}

@@ -1,7 +1,0 @@
-use Rattle.std.proofs.Common.{◌≡◌, rules}
-use Rattle.cmd_files.proofs.csv_line.begin_deleted_row.Goals as goal
-
-pub returns : goal.returns
-returns c =
-    let slot : c.file.inside.slot ≡ c.args.file.now.slot = search rules in
-    rw (c.in_ok-begin_place.ensures, slot) at c.push_deleted_fields.ensures

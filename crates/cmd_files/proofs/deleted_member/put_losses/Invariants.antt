@@ -1,7 +1,0 @@
-use Rattle.std.proofs.Common.{drop}
-use Rattle.out_json_csv.proofs.Arrays.{ArrayBegun}
-use Rattle.cmd_files.specs.DeletedObject.{loss_value}
-use Rattle.cmd_files.proofs.deleted_member.put_losses.Given as goal
-
-abbrev pub invariant-loop-loss : goal.invariant-loop-loss
-invariant-loop-loss l = ArrayBegun loss_value l.initial.writer l.writer l.losses (drop l.loss-index l.losses)

@@ -1,6 +1,0 @@
-use Rattle.cmd_files.specs.Extracted.{unextracted_row}
-use Rattle.cmd_files.proofs.extracted.unextracted_csv.Goals as goal
-
-pub returns : goal.returns
-unfolding unextracted_row
-returns c = rw (c.in_ok-push_leftovers.ensures, c.in_ok-push_field.ensures, c.in_ok-begin_name_alone.ensures) at c.end_row.ensures

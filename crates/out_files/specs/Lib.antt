@@ -1,0 +1,15 @@
+pub mod FlawWords
+pub mod LossWords
+pub mod FileObject
+pub mod DeletedObject
+pub mod OrphanObject
+pub mod RowObject
+pub mod FileRow
+pub mod DeletedRow
+pub mod OrphanRow
+pub mod CsvRow
+pub mod FileTable
+pub mod DeletedTable
+pub mod OrphanTable
+pub mod RowText
+pub mod Forms

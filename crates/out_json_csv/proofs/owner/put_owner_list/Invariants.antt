@@ -1,7 +1,0 @@
-use Rattle.std.proofs.Common.{drop}
-use Rattle.out_json_csv.specs.Owners.{owner_object}
-use Rattle.out_json_csv.proofs.Arrays.{ArrayBegun}
-use Rattle.out_json_csv.proofs.owner.put_owner_list.Given as goal
-
-abbrev pub invariant-loop-owner : goal.invariant-loop-owner
-invariant-loop-owner l = ArrayBegun (owner_object l.survey) l.initial.writer l.writer l.owners (drop l.owner-index l.owners)
