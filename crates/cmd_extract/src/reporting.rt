@@ -1,6 +1,6 @@
 //! What is printed of the files of an image, collected as they are written.
 ghost use Rattle.std.specs.Prelude.{◌≡◌, ◌++◌, [], Option, option_map, false, true, OnOk};
-ghost use Rattle.out_files.specs.Forms.{before_rows, after_rows};
+ghost use Rattle.out_files.specs.Forms.{before_rows};
 ghost use Rattle.cmd_extract.specs.Extracts.{printed_file};
 ghost use Rattle.out_files.specs.Forms.{as_json};
 ghost use Rattle.out_messages.specs.FaultLines.{unwritten_line};
@@ -12,7 +12,7 @@ use crate::extract_printing::print_file;
 use crate::list_state::ListState;
 use crate::setup::Task;
 use d64_leftovers::ListedRow;
-use out_files::{print_after, print_before};
+use out_files::print_before;
 use out_json_csv::Scratch;
 use program_batch::Reason;
 use std::alloc::{AllocError, Global};

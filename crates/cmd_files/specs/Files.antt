@@ -15,7 +15,6 @@ use Rattle.out_json_csv.specs.Unanswered.{unread_object, no_dump_object, no_dump
 use Rattle.program_batch.specs.Answers.{Rule}
 use Rattle.program_surveys.specs.Printings.{Printing, survey_rule}
 use Rattle.out_files.specs.CsvRow.{csv_row, file_header_row, unanswered_file_row}
-use Rattle.out_files.specs.FileTable.{head_line, missing_lines}
 use Rattle.cmd_files.specs.Selections.{files_alone, deleted_alone, orphans_alone}
 use Rattle.out_files.specs.Forms.{files_and, before_rows, after_rows}
 use Rattle.out_files.specs.RowObject.{row_object}

@@ -1,7 +1,6 @@
 //! Printing the files of an image, in one of the three formats.
-ghost use Rattle.std.specs.Prelude.{◌≡◌, ◌++◌, IfOk, OnOk, length};
+ghost use Rattle.std.specs.Prelude.{◌≡◌, ◌++◌, IfOk, OnOk};
 ghost use Rattle.cmd_files.specs.Files.{printed_row, printed_rows, under_heading, is_section_wanted, section_rows, section_heading, section_of, all_rows, printed_of};
-ghost use Rattle.out_files.specs.Forms.{before_rows, after_rows};
 
 use d64_leftovers::{ListedRow, RowList, Selection};
 use d64_survey::{Inspection, Survey};

@@ -14,7 +14,8 @@ pub use d64_undo::laws::{
 };
 pub use d64_undo::{Answer, NothingToRedo, NothingToUndo, Request, Session, run_all};
 pub use entry::{ObservedProgram, program};
-pub use host_storage::{FolderHost, Host, HostFault, MemoryHost};
+pub use host_memory::MemoryHost;
+pub use host_storage::{FolderHost, Host, HostFault};
 pub use program_arguments::{Job, JobFault, Subcommand, job};
 pub use program_console::{Console, ProgramFault};
 pub use script_run::{Observer, Outcome, ShellFault, laws, run};

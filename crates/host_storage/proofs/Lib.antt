@@ -1,4 +1,1 @@
-pub mod FilesOfEntries
-pub mod Moves
-pub mod Countdowns
 mod ReadBytes

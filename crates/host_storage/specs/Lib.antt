@@ -2,6 +2,5 @@ pub mod Access
 pub mod Files
 pub mod Folders
 pub mod Host
-pub mod MemoryHost
 pub mod Obstacles
 pub mod Replacement

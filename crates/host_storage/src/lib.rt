@@ -1,7 +1,7 @@
-//! Hosts, which read and store the files of the shell by their names: one in memory, and one over
-//! the folders of the system, whose stores are whole or not at all.
+//! Hosts, which read and store the files of the shell by their names, and the host over the folders
+//! of the system, whose stores are whole or not at all.
 //!
-//! Contracts speak of the files of a host in memory, but not of those of a host over folders.
+//! Contracts do not speak of the files of a host over folders.
 #![tactic(auto)]
 
 mod access;
@@ -9,7 +9,6 @@ mod draft;
 mod folder_host;
 mod host;
 mod look;
-mod memory_host;
 mod new_entry;
 mod new_file;
 mod outcomes;
@@ -24,7 +23,6 @@ mod writes;
 pub use draft::{Draft, replace_by};
 pub use folder_host::FolderHost;
 pub use host::{FolderFault, Host, HostFault, Obstacle, WriteObstacle};
-pub use memory_host::MemoryHost;
 pub use retrying::Retrying;
 pub use size_limit::SizeLimit;
 pub use standard_streams::StandardStream;

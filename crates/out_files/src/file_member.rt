@@ -2,7 +2,7 @@
 ghost use Rattle.std.specs.Prelude.{[], ◌∷◌, map, codes};
 ghost use Rattle.json.specs.Json.{string};
 ghost use Rattle.out_json_csv.specs.Values.{Prints, PrintsMembers, array_of, numeral, numeral_or_null};
-ghost use Rattle.out_files.specs.FileObject.{kind_value, boolean_or_null, bytes_value, digest_value, flaw_value, name_members, type_members, entry_members, way_members, content_members, file_state_members, file_members};
+ghost use Rattle.out_files.specs.FileObject.{kind_value, boolean_or_null, flaw_value, name_members, type_members, entry_members, way_members, content_members, file_state_members, file_members};
 
 use crate::flaw_word::flaw_word;
 use d64_files::{Kind, name_in};

@@ -1,6 +1,6 @@
 //! The orphans of an image in a table for people.
 ghost use Rattle.std.specs.Prelude.{◌≡◌, ◌++◌, OnOk, decimal};
-ghost use Rattle.out_files.specs.FileTable.{right_in, left_in};
+ghost use Rattle.out_files.specs.FileTable.{right_in};
 ghost use Rattle.out_files.specs.OrphanTable.{orphan_name, orphan_kind, named_text, orphan_error_text, orphan_byte_count, orphan_state, orphan_text};
 
 use crate::table::{NAME_COLUMNS, SIZE_COLUMNS, push_left, push_right};

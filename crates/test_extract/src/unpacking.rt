@@ -2,7 +2,8 @@
 
 use cmd_extract::{ExtractSetup, Unpacker};
 use out_files::Form;
-use host_storage::{Host, MemoryHost};
+use host_memory::MemoryHost;
+use host_storage::Host;
 use program_arguments::{Format, Leftovers};
 use program_batch::{FileTask, ReportBuffer, Verdict};
 use std::alloc::Global;

@@ -2,7 +2,8 @@
 
 use crate::end::{Bench, End};
 use crate::texts::TEXT;
-use host_storage::{Host, HostFault, MemoryHost};
+use host_memory::MemoryHost;
+use host_storage::{Host, HostFault};
 use std::alloc::{AllocError, Global};
 use std::test::Fail;
 

@@ -7,7 +7,7 @@ use crate::sessions::Beside;
 use crate::texts::{START, TEXT};
 use cbm_text::{BasicFault, ListFault};
 use cmd_basic::ToolFault;
-use host_storage::MemoryHost;
+use host_memory::MemoryHost;
 use program_arguments::JobFault;
 use program_console::ProgramFault;
 use script_run::{Outcome, ShellFault};

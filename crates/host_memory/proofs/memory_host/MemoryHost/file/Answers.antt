@@ -1,7 +1,7 @@
 use Rattle.std.proofs.Common.{◌≡◌, ap, ◌∙◌, rules, option_copied}
 use Rattle.std.specs.Prelude.{option_map}
-use Rattle.host_storage.proofs.FilesOfEntries.{found_file}
-use Rattle.host_storage.proofs.memory_host.MemoryHost.file.Goals as goal
+use Rattle.host_memory.proofs.FilesOfEntries.{found_file}
+use Rattle.host_memory.proofs.memory_host.MemoryHost.file.Goals as goal
 
 -- the entry that is found holds the file's bytes
 pub returns : goal.returns

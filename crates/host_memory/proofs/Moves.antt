@@ -20,8 +20,8 @@ use Rattle.std.proofs.lemmas.List.{map-append, nil_from_length}
 use Rattle.std.proofs.lemmas.List.Sums.{fold-append}
 use Rattle.host_storage.specs.Files.{Files}
 use Rattle.host_storage.specs.Folders.{folder_name, moved_name, with_moved}
-use Rattle.host_storage.specs.MemoryHost.{files_of_entries}
-use Rattle.host_storage.proofs.FilesOfEntries.{set_file}
+use Rattle.host_memory.specs.MemoryHost.{files_of_entries}
+use Rattle.host_memory.proofs.FilesOfEntries.{set_file}
 
 -- an entry of a map as a name and its bytes
 abbrev pub as_file : {A B : Type 0} → String A × Vec ℕ B → List ℕ × List ℕ

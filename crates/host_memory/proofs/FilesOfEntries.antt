@@ -9,7 +9,7 @@ use Rattle.std.specs.Map.{lookup, update}
 use Rattle.std.specs.Str.{bytes_eq}
 use Rattle.std.proofs.lemmas.Map.Text.{is_eq-slice_cmp}
 use Rattle.std.proofs.lemmas.Slice.Eq.{bytes_eq-Decides}
-use Rattle.host_storage.specs.MemoryHost.{MemoryFiles, files_of_entries}
+use Rattle.host_memory.specs.MemoryHost.{MemoryFiles, files_of_entries}
 
 -- a name has the same bytes among the pairs as among the entries
 find-entries : {A B : Type 0} (entries : List (String A × Vec ℕ B)) (name : List ℕ) → find (slice_cmp nat_cmp) name (map (λ entry. (string_bytes entry.0, entry.1.items)) entries) ≡ option_map (λ value. value.items) (lookup (is_at (λ key. slice_cmp nat_cmp name (string_bytes key))) entries)

@@ -2,9 +2,9 @@ use Rattle.std.proofs.Common.{◌≡◌, map}
 use Rattle.std.specs.FinMap.{empty}
 use Rattle.std.specs.List.{fold}
 use Rattle.std.specs.Map.Iter.{deref_pair}
-use Rattle.host_storage.specs.MemoryHost.{files_of_entries}
-use Rattle.host_storage.proofs.Moves.{as_file, moved_in}
-use Rattle.host_storage.proofs.memory_host.MemoryHost.moved.Given as goal
+use Rattle.host_memory.specs.MemoryHost.{files_of_entries}
+use Rattle.host_memory.proofs.Moves.{as_file, moved_in}
+use Rattle.host_memory.proofs.memory_host.MemoryHost.moved.Given as goal
 
 -- the entries so far have their new names
 abbrev pub invariant-loop-name : goal.invariant-loop-name

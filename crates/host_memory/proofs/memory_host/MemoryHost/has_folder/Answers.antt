@@ -4,8 +4,8 @@ use Rattle.std.specs.Map.Iter.{deref_pair}
 use Rattle.std.proofs.lemmas.List.{map-append}
 use Rattle.std.proofs.lemmas.Map.Iter.{rest_more, rest_so_far, iter_end}
 use Rattle.host_storage.specs.Folders.{folder_name}
-use Rattle.host_storage.proofs.FilesOfEntries.{is_named, unnamed, lookup-push, has_file, lacks_file}
-use Rattle.host_storage.proofs.memory_host.MemoryHost.has_folder.Goals as goal
+use Rattle.host_memory.proofs.FilesOfEntries.{is_named, unnamed, lookup-push, has_file, lacks_file}
+use Rattle.host_memory.proofs.memory_host.MemoryHost.has_folder.Goals as goal
 
 -- the name that is found is among the entries
 pub returns-then-is_folder_name : goal.returns-then-is_folder_name

@@ -3,7 +3,7 @@ use Rattle.std.specs.Prelude.{MatchOption}
 use Rattle.std.proofs.lemmas.List.{append_cancel_right}
 use Rattle.std.proofs.lemmas.Str.Pattern.{strip_suffix_char}
 use Rattle.std.proofs.lemmas.Slice.Eq.{bytes_eq-Decides}
-use Rattle.host_storage.proofs.memory_host.is_folder_name.Goals as goal
+use Rattle.host_memory.proofs.memory_host.is_folder_name.Goals as goal
 
 -- the part before the slash is the path, or the name is another one
 pub returns-in-Some : goal.returns-in-Some

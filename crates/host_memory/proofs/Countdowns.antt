@@ -1,6 +1,6 @@
 -- What is left of a countdown after some calls.
 use Rattle.std.proofs.Common.{◌≡◌, ℕ, zero, suc, ◌+◌, ◌-◌, ◌∙◌, ◌↔◌, arith}
-use Rattle.host_storage.specs.MemoryHost.{countdown_after}
+use Rattle.host_memory.specs.MemoryHost.{countdown_after}
 
 -- each call takes one off
 countdown_after-sub : (calls countdown : ℕ) → countdown_after calls countdown ≡ countdown - calls

@@ -7,8 +7,8 @@ use Rattle.std.specs.String.{string_cmp}
 use Rattle.std.proofs.lemmas.Map.Iter.{iter_end}
 use Rattle.std.proofs.lemmas.Map.Text.{btree_map_updates_text}
 use Rattle.host_storage.specs.Folders.{folder_name, with_moved}
-use Rattle.host_storage.proofs.Moves.{as_file, moved_in, moved_all, moved_step, moved_name-same}
-use Rattle.host_storage.proofs.memory_host.MemoryHost.moved.Goals as goal
+use Rattle.host_memory.proofs.Moves.{as_file, moved_in, moved_all, moved_step, moved_name-same}
+use Rattle.host_memory.proofs.memory_host.MemoryHost.moved.Goals as goal
 
 -- one more entry has its new name, whether or not another one had that name
 pub loop-name-preserved-in_ok-insert : goal.loop-name-preserved-in_ok-insert

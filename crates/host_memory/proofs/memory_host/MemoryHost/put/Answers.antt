@@ -1,7 +1,7 @@
 use Rattle.std.proofs.Common.{ap, string_bytes}
 use Rattle.std.proofs.lemmas.Map.Text.{btree_map_updates_text}
-use Rattle.host_storage.proofs.FilesOfEntries.{set_file}
-use Rattle.host_storage.proofs.memory_host.MemoryHost.put.Goals as goal
+use Rattle.host_memory.proofs.FilesOfEntries.{set_file}
+use Rattle.host_memory.proofs.memory_host.MemoryHost.put.Goals as goal
 
 -- the key holds the name and the value the bytes, so the insertion sets that one file
 pub returns-clause-accepted : goal.returns-clause-accepted

@@ -5,9 +5,9 @@ ghost use Rattle.std.specs.FinMap.{contains_key, empty, get, insert};
 ghost use Rattle.host_storage.specs.Folders.{folder_name, is_at, moved_name, with_stored_file, with_folder, with_more, with_moved, Looks, Makes, Extends, CountsMaking};
 ghost use Rattle.host_storage.specs.Host.{fetched_bytes, filled_bytes, opened_bytes, Fetches, Opens, Stores, CountsDevice, answered_fault, one_more_failure};
 ghost use Rattle.host_storage.specs.Obstacles.{LooksFor, LooksToWrite, obstacle_at};
-ghost use Rattle.host_storage.specs.MemoryHost.{after_call, countdown_after, extending_refusal, fetch_refusal, files_of_entries, making_refusal, open_refusal, store_refusal};
+ghost use Rattle.host_memory.specs.MemoryHost.{after_call, countdown_after, extending_refusal, fetch_refusal, files_of_entries, making_refusal, open_refusal, store_refusal};
 
-use crate::host::{FolderFault, Host, HostFault, Obstacle, WriteObstacle};
+use host_storage::{FolderFault, Host, HostFault, Obstacle, WriteObstacle};
 use std::alloc::{AllocError, Global};
 use std::collections::{BTreeMap, VecDeque};
 use std::marker::Model;
@@ -23,7 +23,7 @@ pub struct MemoryHost {
 }
 
 impl Model for MemoryHost {
-    ghost use Rattle.host_storage.specs.MemoryHost.{MemoryFiles, memory_files_code, files_of_entries};
+    ghost use Rattle.host_memory.specs.MemoryHost.{MemoryFiles, memory_files_code, files_of_entries};
 
     ghost Value = { MemoryFiles };
 

@@ -1,6 +1,6 @@
 use Rattle.std.proofs.Common.{◌≡◌, ◌++◌, sym, subst, ◌∙◌, rules, IfOk, string_bytes}
-use Rattle.host_storage.proofs.Moves.{moved_name-within, moved_name-beside, stripped, unstripped}
-use Rattle.host_storage.proofs.memory_host.moved_name.Goals as goal
+use Rattle.host_memory.proofs.Moves.{moved_name-within, moved_name-beside, stripped, unstripped}
+use Rattle.host_memory.proofs.memory_host.moved_name.Goals as goal
 
 -- the new beginning, and what follows the old one
 pub returns-in_ok-push_str-in-Some : goal.returns-in_ok-push_str-in-Some

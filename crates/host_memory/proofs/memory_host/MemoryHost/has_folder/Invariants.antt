@@ -2,8 +2,8 @@ use Rattle.std.proofs.Common.{◌≡◌, None, map}
 use Rattle.std.specs.Map.{lookup}
 use Rattle.std.specs.Map.Iter.{deref_pair}
 use Rattle.host_storage.specs.Folders.{folder_name}
-use Rattle.host_storage.proofs.FilesOfEntries.{is_named}
-use Rattle.host_storage.proofs.memory_host.MemoryHost.has_folder.Given as goal
+use Rattle.host_memory.proofs.FilesOfEntries.{is_named}
+use Rattle.host_memory.proofs.memory_host.MemoryHost.has_folder.Given as goal
 
 -- no name so far is that of the folder
 abbrev pub invariant-loop-name : goal.invariant-loop-name

@@ -1,0 +1,3 @@
+pub mod FilesOfEntries
+pub mod Moves
+pub mod Countdowns
