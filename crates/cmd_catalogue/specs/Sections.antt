@@ -14,7 +14,7 @@ use Rattle.out_messages.specs.CheckText.{contents_text, state_text}
 use Rattle.out_messages.specs.FaultText.{fault_text, read_error_text}
 use Rattle.host_names.specs.Shown.{shown_name}
 use Rattle.out_markup.specs.Markup.{element, held_text}
-use Rattle.cmd_map.specs.PagePicture.{page_svg_of}
+use Rattle.out_picture.specs.PagePicture.{page_svg_of}
 use Rattle.cmd_catalogue.specs.Elements.{text_line}
 use Rattle.cmd_catalogue.specs.Files.{table}
 

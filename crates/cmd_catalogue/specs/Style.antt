@@ -1,7 +1,7 @@
 -- The style of the page.
 use Rattle.std.specs.Prelude.{ℕ, List, [], ◌++◌, codes}
 use Rattle.out_markup.specs.Markup.{element}
-use Rattle.cmd_map.specs.Style.{picture_rules}
+use Rattle.out_picture.specs.Style.{picture_rules}
 
 -- the colours, light and dark, and the page
 unfoldable pub page_rules : List ℕ

@@ -7,13 +7,13 @@ ghost use Rattle.cmd_catalogue.specs.Sections.{disk_name_line, id_line, host_lin
 use crate::element::push_text_line;
 use crate::files::push_table;
 use crate::host_files::HostFiles;
-use cmd_map::page_svg;
 use d64_files::{disk_id, disk_name};
 use d64_image::Image;
 use d64_survey::{Fault, Inspection, ReadError, Survey};
 use host_names::push_shown;
 use out_markup::push_held;
 use out_messages::{push_contents, push_fault, push_number, push_read_error, push_state};
+use out_picture::page_svg;
 use petscii::push_spelling;
 use std::alloc::AllocError;
 

@@ -1,9 +1,9 @@
 //! The style of the page.
 ghost use Rattle.std.specs.Prelude.{◌≡◌, ◌++◌, OnOk};
 ghost use Rattle.cmd_catalogue.specs.Style.{page_rules, search_rules, section_rules, label_rules, table_rules, medium_rules, rules, page_style};
-ghost use Rattle.cmd_map.specs.Style.{picture_rules};
+ghost use Rattle.out_picture.specs.Style.{picture_rules};
 
-use cmd_map::push_picture_rules;
+use out_picture::push_picture_rules;
 use std::alloc::AllocError;
 
 /// The colours, light and dark, and the page.

@@ -1,6 +1,6 @@
 -- Rows of tracks, a block at a time.
-use Rattle.std.proofs.Common.{◌≡◌, ◌≢◌, ℕ, ◌+◌, ◌-◌, ◌<◌, ◌≤◌, List, [], ◌∷◌, ◌++◌, Option, Some, None, length, take, refl, sym, ap, ◌∙◌, arith, append_assoc, inl, inr}
-use Rattle.std.specs.List.{flat_map, range_with_len}
+use Rattle.std.proofs.Common.{◌≡◌, ℕ, ◌+◌, ◌<◌, ◌≤◌, List, [], ◌∷◌, ◌++◌, Option, Some, None, length, take, sym, ap, ◌∙◌, arith, inl, inr}
+use Rattle.std.specs.List.{flat_map}
 use Rattle.std.proofs.lemmas.List.{flat_map_more, take_all}
 use Rattle.std.proofs.lemmas.List.FromFn.{length-range_with_len}
 use Rattle.std.proofs.lemmas.Bool.{cases_lt}
@@ -11,7 +11,6 @@ use Rattle.d64_image.proofs.Pairs.{block_of-legal, block_of-none}
 use Rattle.d64_map.specs.Track.{blocks_on}
 use Rattle.d64_map.proofs.Ranges.{range_push}
 use Rattle.d64_map.proofs.Searching.{all_on, take_on}
-use Rattle.d64_map.proofs.Maps.{sectors_few}
 
 -- all blocks of a track, if as many are taken as a track can have
 pub all_taken : (track count : ℕ) → sectors_on track ≤ count → take count (blocks_on track) ≡ blocks_on track
@@ -47,13 +46,3 @@ none_taken {A = A} f before after old track sector one within is so same =
     ] in
     same ∙ so
     ∙ ap (λ (blocks : List ℕ). old ++ flat_map f blocks) (all_taken track sector past ∙ sym (all_taken track (sector + 1) (omega arith)))
-
--- one number more
-pub row_more : {A : Type 0} (f : ℕ → List A) (before after old : List A) (k : ℕ) → before ≡ old ++ flat_map f (range_with_len 0 k) → after ≡ before ++ f k
-    → after ≡ old ++ flat_map f (range_with_len 0 (k + 1))
-row_more {A = A} f before after old k so more =
-    let here : 0 + k ≡ k = omega arith in
-    more ∙ ap (λ (text : List A). text ++ f k) so
-    ∙ flat_map_more f old (range_with_len 0 k) k
-    ∙ ap (λ (n : ℕ). old ++ flat_map f (range_with_len 0 k ++ n ∷ [])) (sym here)
-    ∙ ap (λ (ns : List ℕ). old ++ flat_map f ns) (sym (range_push 0 k))

@@ -1,11 +1,2 @@
-pub mod States
 pub mod MapText
 pub mod Pictures
-pub mod Colours
-pub mod Shapes
-pub mod Cells
-pub mod Legend
-pub mod Style
-pub mod Svg
-pub mod Regions
-pub mod PagePicture

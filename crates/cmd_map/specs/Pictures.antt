@@ -7,7 +7,7 @@ use Rattle.program_surveys.specs.Printings.{Printing, survey_rule}
 use Rattle.program_arguments.specs.declared.jobs.PictureForm.{PictureForm}
 use Rattle.program_arguments.specs.declared.jobs.PictureForm.TheVariants.{Text, Svg}
 use Rattle.cmd_map.specs.MapText.{map_text}
-use Rattle.cmd_map.specs.Svg.{svg_of}
+use Rattle.out_picture.specs.Svg.{svg_of}
 
 -- the map of a dump in a form
 abbrev pub picture_of : PictureForm → List ℕ → DumpView → List ℕ

@@ -2,9 +2,9 @@
 ghost use Rattle.std.specs.Prelude.{◌≡◌};
 ghost use Rattle.cmd_map.specs.Pictures.{map_printing};
 
-use crate::svg::map_svg;
 use crate::text::map_text;
 use d64_survey::Inspection;
+use out_picture::map_svg;
 use program_arguments::PictureForm;
 use program_surveys::Printer;
 use std::alloc::AllocError;

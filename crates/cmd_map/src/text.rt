@@ -3,11 +3,11 @@ ghost use Rattle.std.specs.Prelude.{◌≡◌, ◌++◌, OnOk};
 ghost use Rattle.d64_image.specs.Block.{IsTrackNumber};
 ghost use Rattle.cmd_map.specs.MapText.{map_head_line, column_lines, padded_number, track_row, track_line, track_lines, legend_line, map_text as map_text_of};
 
-use crate::block_state::state_of;
 use d64_image::BlockNo;
 use d64_survey::Inspection;
 use host_names::push_shown;
 use out_messages::{push_label, push_number, push_state};
+use out_picture::state_of;
 use std::alloc::AllocError;
 
 /// The most sectors of a track.

@@ -1,7 +1,7 @@
 use Rattle.std.proofs.Common.{◌≡◌, ℕ, List, ◌++◌, Vec, Global, sym, ap, ◌∙◌, arith}
 use Rattle.std.specs.List.{flat_map}
 use Rattle.d64_map.proofs.Maps.{sectors_few}
-use Rattle.cmd_map.specs.States.{state_of_block, state_mark}
+use Rattle.out_picture.specs.States.{state_of_block, state_mark}
 use Rattle.cmd_map.specs.MapText.{track_row}
 use Rattle.cmd_map.proofs.Rows.{all_taken, one_taken, none_taken}
 use Rattle.cmd_map.proofs.text.push_row.Goals as goal

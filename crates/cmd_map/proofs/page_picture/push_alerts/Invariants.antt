@@ -1,7 +1,0 @@
-use Rattle.std.proofs.Common.{◌≡◌, ◌++◌}
-use Rattle.std.specs.List.{flat_map}
-use Rattle.cmd_map.specs.PagePicture.{alert, alerts}
-use Rattle.cmd_map.proofs.page_picture.push_alerts.Given as goal
-
-abbrev pub invariant-loop-block : goal.invariant-loop-block
-invariant-loop-block l = l.out.items ++ flat_map (alert l.inspection) l.block-iterator ≡ l.initial.out.items ++ alerts l.inspection

@@ -1,0 +1,3 @@
+pub mod StateRules
+pub mod Columns
+pub mod FileRows

@@ -1,0 +1,9 @@
+pub mod States
+pub mod Colours
+pub mod Shapes
+pub mod Cells
+pub mod Legend
+pub mod Style
+pub mod Svg
+pub mod Regions
+pub mod PagePicture
