@@ -6,7 +6,7 @@ use d64_shell::{
     Console, FolderHost, Job, ObservedProgram, Observer, ProgramFault, Subcommand, job,
 };
 use host_storage::{Retrying, SizeLimit, StandardStream};
-use program_streams::{
+use program_console::{
     MarkingWriter, ProgressLine, QuietWriter, WatchedHost, WipingWriter, WithinLimit,
 };
 use script_hints::Advisor;
