@@ -10,7 +10,7 @@ use Rattle.d64_survey.specs.ReadErrors.{read_errors}
 use Rattle.d64_survey.specs.declared.fault.Fault.{Fault}
 use Rattle.d64_survey.specs.declared.read_error.ReadError.{ReadError}
 use Rattle.petscii.specs.Spelling.{spelling}
-use Rattle.out_messages.specs.CheckText.{contents_text, state_text}
+use Rattle.out_messages.specs.StateText.{contents_text, state_text}
 use Rattle.out_messages.specs.FaultText.{fault_text, read_error_text}
 use Rattle.host_names.specs.Shown.{shown_name}
 use Rattle.out_markup.specs.Markup.{element, held_text}

@@ -2,7 +2,6 @@
 ghost use Rattle.std.specs.Prelude.{◌≡◌, ◌≤◌, [], ◌++◌, length, codes, option_map, OnOk};
 ghost use Rattle.d64_survey.specs.Flaws.{wholeness_by};
 ghost use Rattle.d64_survey.specs.Owners.{way_slots};
-ghost use Rattle.out_messages.specs.FileText.{letters_of};
 ghost use Rattle.cmd_catalogue.specs.Files.{slot_reasons, slot_unknown_text, wholeness_text, slot_state_words, state_class, state_cell, size_cell, name_cell, kind_cell, file_cells, flawed_row, used_row, file_row, file_rows, linked_rows, dump_rows, table_head, table};
 ghost use Rattle.d64_files.specs.Directory.{entries};
 ghost use Rattle.out_markup.specs.Markup.{element};
@@ -14,7 +13,7 @@ use crate::host_files::HostFiles;
 use d64_files::Entry;
 use d64_image::Image;
 use d64_survey::{Flaw, Inspection, wholeness};
-use out_messages::{blocks_there, kind_letters, locked_text, push_flaws, push_number};
+use out_messages::{blocks_there, letters_of, locked_text, push_flaws, push_number};
 use petscii::push_spelling;
 use std::alloc::AllocError;
 
@@ -148,17 +147,6 @@ fn push_name_cell(
     text.clear();
     push_spelling(text, entry.name())?;
     push_linked_text_in(out, b"th", b" scope=\"row\"", link, text.as_slice())
-}
-
-/// Returns the letters of the kind of a slot's file.
-fn letters_of(entry: &Entry) -> &'static [u8]
-    ensures { result.now ≡ letters_of entry.now.bytes }
-{
-    if entry.has_kind() {
-        kind_letters(entry.kind()).as_bytes()
-    } else {
-        b"???"
-    }
 }
 
 /// Appends the letters of the kind.

@@ -1,1 +1,3 @@
 pub mod EndedRows
+pub mod FaultCounts
+pub mod FileLines

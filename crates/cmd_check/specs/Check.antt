@@ -10,7 +10,7 @@ use Rattle.out_json_csv.specs.Values.{line_of}
 use Rattle.cmd_check.specs.Checks.{check_object, check_row}
 use Rattle.cmd_check.specs.CheckRows.{header_row, unanswered_row}
 use Rattle.out_json_csv.specs.Unanswered.{unread_object, no_dump_object, no_dump_error}
-use Rattle.out_messages.specs.CheckText.{check_text}
+use Rattle.cmd_check.specs.CheckText.{check_text}
 use Rattle.program_batch.specs.Answers.{Rule}
 use Rattle.program_surveys.specs.Printings.{Printing, survey_rule}
 

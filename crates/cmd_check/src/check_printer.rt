@@ -3,11 +3,11 @@ ghost use Rattle.std.specs.Prelude.{◌≡◌};
 ghost use Rattle.cmd_check.specs.Check.{check_printing};
 
 use crate::csv_line::check_csv;
+use crate::image_text::check_text;
 use crate::json_line::check_json;
 use crate::row::{csv_header, no_dump_csv, unread_csv};
 use d64_survey::Inspection;
 use out_json_csv::{Scratch, no_dump_json, unread_json};
-use out_messages::check_text;
 use program_arguments::Format;
 use program_surveys::Printer;
 use sha2::{Digest, Sha256};

@@ -5,7 +5,9 @@
 mod check_printer;
 mod csv_line;
 mod doubt;
+mod file_lines;
 mod finding;
+mod image_text;
 mod json_line;
 mod owner;
 mod row;

@@ -5,7 +5,7 @@ use Rattle.d64_image.specs.Image.{tracks_of}
 use Rattle.d64_map.specs.Track.{blocks_on}
 use Rattle.d64_survey.specs.Dump.{DumpView}
 use Rattle.host_names.specs.Shown.{shown_name}
-use Rattle.out_messages.specs.CheckText.{label_text, state_text}
+use Rattle.out_messages.specs.StateText.{label_text, state_text}
 use Rattle.out_picture.specs.States.{state_of_block, state_mark}
 
 -- the file's name, the disk's name and id, and its state

@@ -13,7 +13,7 @@ use Rattle.d64_survey.specs.ReadErrors.{read_errors}
 use Rattle.d64_survey.specs.declared.fault.Fault.{Fault}
 use Rattle.d64_survey.specs.declared.read_error.ReadError.{ReadError}
 use Rattle.d64_inventory.specs.Rows.{FileRowView}
-use Rattle.out_messages.specs.CheckText.{label_text}
+use Rattle.out_messages.specs.StateText.{label_text}
 use Rattle.out_messages.specs.FaultText.{fault_text, read_error_text}
 use Rattle.out_messages.specs.FileText.{kind_letters, locked_text, flaws_text}
 use Rattle.out_messages.specs.Names.{quoted_name}

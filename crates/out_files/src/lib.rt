@@ -1,5 +1,5 @@
-//! The rows of the files on a disk, also of deleted files and of orphans, as lines of a table, as JSON
-//! and as CSV.
+//! The rows of the files on a disk, also of deleted files and of orphans, as lines of a table, as
+//! JSON and as CSV.
 #![tactic(auto)]
 
 mod around;

@@ -3,4 +3,3 @@ pub mod OwnerTexts
 pub mod Joins
 pub mod FileTexts
 pub mod FaultTexts
-pub mod FaultCounts

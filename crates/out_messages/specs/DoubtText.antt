@@ -1,5 +1,5 @@
 -- What makes an image doubtful, in words.
-use Rattle.std.specs.Prelude.{ℕ, ◌==◌, Bool, true, false, if◌then◌else◌, List, [], ◌∷◌, ◌++◌, codes}
+use Rattle.std.specs.Prelude.{ℕ, ◌==◌, Bool, if◌then◌else◌, List, [], ◌∷◌, ◌++◌, codes}
 use Rattle.std.specs.List.{flat_map}
 use Rattle.d64_image.specs.Disk.{Disk}
 use Rattle.d64_map.specs.Map.{map_block}
@@ -43,8 +43,3 @@ doubtful_words clean = if clean then codes ", but doubtful: " else codes ", and 
 unfoldable pub doubts_text : Disk → Bool → List Doubt → List ℕ
 doubts_text image clean [] = []
 doubts_text image clean (doubt ∷ doubts) = doubtful_words clean ++ (doubt_text image doubt ++ flat_map (next_doubt image) doubts)
-
--- a doubt is that blocks belong to no file
-abbrev pub is_of_unowned : Doubt → Bool
-is_of_unowned Unowned = true
-is_of_unowned doubt = false

@@ -1,18 +1,12 @@
 -- The files that are not whole, in words.
-use Rattle.std.specs.Prelude.{ℕ, suc, ◌==◌, Bool, if◌then◌else◌, List, [], ◌∷◌, ◌++◌, length, codes, decimal}
-use Rattle.std.specs.List.{flat_map}
-use Rattle.d64_image.specs.Disk.{Disk, Bytes}
-use Rattle.d64_files.specs.Slot.{has_kind, kind_of, name_of, size_of}
+use Rattle.std.specs.Prelude.{ℕ, suc, ◌==◌, Bool, if◌then◌else◌, List, [], ◌∷◌, ◌++◌, codes, decimal}
+use Rattle.d64_image.specs.Disk.{Bytes}
+use Rattle.d64_files.specs.Slot.{has_kind, kind_of}
 use Rattle.d64_files.specs.declared.kind.Kind.{Kind}
 use Rattle.d64_files.specs.declared.kind.Kind.TheVariants.{Del, Seq, Prg, Usr, Rel}
-use Rattle.d64_survey.specs.Dump.{DumpView}
-use Rattle.d64_survey.specs.Flaws.{why}
-use Rattle.d64_survey.specs.Inspection.{is_unwhole_file}
-use Rattle.d64_survey.specs.SlotBlocks.{slot_blocks}
 use Rattle.d64_survey.specs.declared.flaw.Flaw.{Flaw}
 use Rattle.d64_survey.specs.declared.flaw.Flaw.TheVariants.{Unclosed, Kindless, Broken, Shared, Unreadable, Missized, Geos}
-use Rattle.out_messages.specs.Names.{quoted_name}
-use Rattle.out_messages.specs.Words.{counted_text, line_below}
+use Rattle.out_messages.specs.Words.{counted_text}
 
 -- the three letters of a kind
 abbrev pub kind_letters : Kind → List ℕ
@@ -56,15 +50,3 @@ flaws_from shown there place (flaw ∷ flaws) = comma place ++ (flaw_text shown 
 -- all reasons
 abbrev pub flaws_text : ℕ → ℕ → List Flaw → List ℕ
 flaws_text shown there flaws = flaws_from shown there 0 flaws
-
--- a file that is not whole, for these reasons
-unfoldable pub file_text : Disk → Bytes → List Flaw → List ℕ
-file_text image cell flaws = quoted_name (name_of cell) ++ (codes " " ++ (letters_of cell ++ (codes ": " ++ flaws_text (size_of cell) (length (slot_blocks image cell)) flaws)))
-
--- the line of a slot, if its file is not whole
-unfoldable pub file_line : DumpView → Bytes → List ℕ
-file_line dump cell = if is_unwhole_file dump cell then line_below (file_text dump.image cell (why dump.image dump.codes cell)) else []
-
--- a line for each file that is not whole
-unfoldable pub file_lines : DumpView → List Bytes → List ℕ
-file_lines dump cells = flat_map (file_line dump) cells

@@ -7,4 +7,4 @@ pub mod OwnerText
 pub mod FaultText
 pub mod FileText
 pub mod DoubtText
-pub mod CheckText
+pub mod StateText

@@ -1,9 +1,9 @@
 //! What makes an image doubtful, in words.
 ghost use Rattle.std.specs.Prelude.{◌≡◌, ◌++◌, OnOk};
-ghost use Rattle.std.specs.List.{flat_map, list_any};
+ghost use Rattle.std.specs.List.{flat_map};
 ghost use Rattle.d64_map.specs.Map.{map_block as map_block_of};
 ghost use Rattle.d64_survey.specs.Doubts.{directory_block as directory_block_of, is_blank as is_blank_in, doubts};
-ghost use Rattle.out_messages.specs.DoubtText.{unowned_words as unowned_words_of, unowned_text, blank_text as blank_text_of, doubt_text, next_doubt, doubtful_words as doubtful_words_of, doubts_text, is_of_unowned as is_of_unowned_in};
+ghost use Rattle.out_messages.specs.DoubtText.{unowned_words as unowned_words_of, unowned_text, blank_text as blank_text_of, doubt_text, next_doubt, doubtful_words as doubtful_words_of, doubts_text};
 
 use crate::words::push_count;
 use d64_image::Image;
@@ -24,7 +24,7 @@ fn unowned_words(count: usize) -> &'static [u8]
 
 /// Appends how many blocks are marked used and belong to no file.
 #[tactic(auto, unfolding(crate::specs::DoubtText::unowned_text))]
-pub(crate) fn push_unowned_text(out: &mut Vec<u8>, count: usize) -> Result<(), AllocError>
+pub fn push_unowned_text(out: &mut Vec<u8>, count: usize) -> Result<(), AllocError>
     ensures { OnOk result (out.new.items ≡ out.old.items ++ unowned_text count) }
 {
     push_count(out, count, b"block")?;
@@ -121,21 +121,4 @@ pub(crate) fn push_doubts(
     ensures { OnOk result (out.new.items ≡ out.old.items ++ doubts_text all.now.image is_clean (doubts all.now.image)) }
 {
     push_list(out, all, is_clean, all.doubts())
-}
-
-/// Whether a doubt is that blocks belong to no file.
-fn is_of_unowned(doubt: Doubt) -> bool
-    ensures { result ≡ is_of_unowned_in doubt }
-{
-    match doubt {
-        Doubt::Unowned => true,
-        Doubt::Version | Doubt::Blank | Doubt::Filler => false,
-    }
-}
-
-/// Whether one of the doubts is that blocks belong to no file.
-pub(crate) fn any_of_unowned(doubts: &[Doubt]) -> bool
-    ensures { result ≡ list_any is_of_unowned_in doubts.now }
-{
-    doubts.iter().any(|doubt| is_of_unowned(*doubt))
 }

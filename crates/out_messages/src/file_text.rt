@@ -1,16 +1,15 @@
 //! The files that are not whole, in words.
 ghost use Rattle.std.specs.Prelude.{◌≡◌, ◌≤◌, ◌==◌, ◌++◌, if◌then◌else◌, length, codes, option_map, OnOk};
 ghost use Rattle.d64_files.specs.Slot.{EntryView};
-ghost use Rattle.d64_survey.specs.Owners.{blocks_from, way_slots};
+ghost use Rattle.d64_survey.specs.Owners.{blocks_from};
 ghost use Rattle.d64_survey.specs.SlotBlocks.{slot_blocks};
-ghost use Rattle.out_messages.specs.Words.{line_below};
-ghost use Rattle.out_messages.specs.FileText.{kind_letters, letters_of, locked_text, size_text, comma, flaw_text, flaws_text, file_text, file_line, file_lines};
+ghost use Rattle.out_messages.specs.FileText.{kind_letters, letters_of, locked_text, size_text, comma, flaw_text, flaws_text};
 
 use crate::number::push_number;
-use crate::words::{LINE_END, LINE_START, push_count, push_quoted};
+use crate::words::push_count;
 use d64_files::{BlockList, Entry, Kind};
 use d64_image::Image;
-use d64_survey::{Flaw, Inspection, Survey, data_pair, side_pair, walk, wholeness};
+use d64_survey::{Flaw, data_pair, side_pair, walk};
 use std::alloc::AllocError;
 
 /// Returns the three letters of a kind.
@@ -34,7 +33,7 @@ pub fn locked_text(locked: bool) -> &'static [u8]
 }
 
 /// Returns the letters of a slot's file.
-fn letters_of(entry: &Entry) -> &'static [u8]
+pub fn letters_of(entry: &Entry) -> &'static [u8]
     ensures { result.now ≡ letters_of entry.now.bytes }
 {
     if entry.has_kind() {
@@ -130,64 +129,6 @@ pub fn push_flaws(
         out.extend_from_slice(comma(place))?;
         push_flaw(out, shown, there, *flaw)?;
         place += 1;
-    }
-    Ok(())
-}
-
-/// Appends a file that is not whole, for these reasons.
-#[tactic(auto, unfolding(crate::specs::FileText::file_text))]
-fn push_file(
-    out: &mut Vec<u8>,
-    survey: &Survey,
-    entry: &Entry,
-    flaws: &[Flaw],
-) -> Result<(), AllocError>
-    requires { length flaws.now ≤ 7 }
-    ensures { OnOk result (out.new.items ≡ out.old.items ++ file_text survey.now entry.now.bytes flaws.now) }
-{
-    push_quoted(out, entry.name())?;
-    out.extend_from_slice(b" ")?;
-    out.extend_from_slice(letters_of(entry))?;
-    out.extend_from_slice(b": ")?;
-    push_flaws(
-        out,
-        usize::from(entry.blocks()),
-        blocks_there(survey.image(), entry),
-        flaws,
-    )
-}
-
-/// Appends the line of a slot, if its file is not whole.
-#[tactic(auto, unfolding(crate::specs::FileText::file_line, crate::specs::Words::line_below))]
-fn push_file_line(
-    out: &mut Vec<u8>,
-    inspection: &Inspection,
-    entry: &Entry,
-) -> Result<(), AllocError>
-    ensures { OnOk result (out.new.items ≡ out.old.items ++ file_line inspection.now entry.now.bytes) }
-{
-    if !entry.used() {
-        return Ok(());
-    }
-    let survey = inspection.survey();
-    let flaws = survey.why(inspection.codes(), entry);
-    match wholeness(entry, flaws.as_slice()) {
-        Some(false) => {
-            out.extend_from_slice(LINE_START)?;
-            push_file(out, survey, entry, flaws.as_slice())?;
-            out.extend_from_slice(LINE_END)
-        }
-        Some(true) | None => Ok(()),
-    }
-}
-
-/// Appends a line for each file that is not whole.
-#[tactic(auto, unfolding(crate::specs::FileText::file_lines))]
-pub(crate) fn push_file_lines(out: &mut Vec<u8>, inspection: &Inspection) -> Result<(), AllocError>
-    ensures { OnOk result (out.new.items ≡ out.old.items ++ file_lines inspection.now (way_slots inspection.now.image)) }
-{
-    for entry in inspection.survey().slots() {
-        push_file_line(out, inspection, &entry)?;
     }
     Ok(())
 }

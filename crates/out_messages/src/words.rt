@@ -9,11 +9,6 @@ use d64_image::BlockNo;
 use petscii::push_spelling;
 use std::alloc::AllocError;
 
-/// How a line below that of the image begins, and how it ends.
-pub(crate) const LINE_START: &[u8] = b"  ";
-
-pub(crate) const LINE_END: &[u8] = b"\n";
-
 /// Appends a name of the disk in text form, between quotes.
 #[tactic(auto, unfolding(crate::specs::Names::quoted_name))]
 pub fn push_quoted(out: &mut Vec<u8>, name: &[u8]) -> Result<(), AllocError>

@@ -3,7 +3,7 @@ ghost use Rattle.std.specs.Prelude.{◌≡◌, ◌<◌, ◌≤◌, ◌++◌, cod
 ghost use Rattle.std.specs.List.{flat_map, range_with_len};
 ghost use Rattle.d64_image.specs.Image.{tracks_of};
 ghost use Rattle.d64_survey.specs.Inspection.{entry_count};
-ghost use Rattle.out_messages.specs.CheckText.{label_text};
+ghost use Rattle.out_messages.specs.StateText.{label_text};
 ghost use Rattle.out_markup.specs.Markup.{element, tag};
 ghost use Rattle.out_picture.specs.Svg.{name_text, picture_summary, height as height_of, description, title, page, page_attributes, label_line, summary_line, heads, column_head, column_heads, row_head, row_heads, view_box, picture_attributes, top, front, picture_content, picture, svg_of};
 

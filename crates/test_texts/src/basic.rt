@@ -34,7 +34,12 @@ fn finds_faulty_lines(rt: HostRuntime) -> Result<(), Fail> {
 
 #[test]
 fn crunches_as_the_machine_does(rt: HostRuntime) -> Result<(), Fail> {
-    let rows: [(&str, &[u8], &str); 10] = [
+    let rows: [(&str, &[u8], &str); 11] = [
+        (
+            "1 forest toto ifa",
+            b"\x01\x08\x10\x08\x01\x00\x81EST \xa4\xa4 \x8bA\x00\x00\x00",
+            "1 forest toto ifa\n",
+        ),
         (
             "10 print\"hello\"",
             b"\x01\x08\x0e\x08\x0a\x00\x99\"HELLO\"\x00\x00\x00",
@@ -120,56 +125,6 @@ fn reports_the_first_fault(rt: HostRuntime) {
 }
 
 #[test]
-fn takes_lines_up_to_the_limits(rt: HostRuntime) -> Result<(), Fail> {
-    let hello = b"10 print\"hello\"";
-    let last = crunch(rt.alloc(), 0xfff2, hello)?;
-    assert_eq!(rt;
-        last.as_slice(),
-        b"\xf2\xff\xff\xff\x0a\x00\x99\"HELLO\"\x00\x00\x00".as_slice()
-    );
-    assert_eq!(rt;
-        crunch(rt.alloc(), 0xfff3, hello).err(),
-        Some(BasicFault::TooLong { line: 1 })
-    );
-    let mut long = Vec::from_slice(rt.alloc(), b"10 ")?;
-    for _ in 0..250 {
-        long.push(b'a')?;
-    }
-    let crunched = crunch(rt.alloc(), 0x0801, &long)?;
-    assert_eq!(rt; crunched.len(), 259);
-    long.push(b'a')?;
-    assert_eq!(rt;
-        crunch(rt.alloc(), 0x0801, &long).err(),
-        Some(BasicFault::TooLong { line: 1 })
-    );
-    Ok(())
-}
-
-#[test]
-fn reports_the_least_fault_of_a_long_line(rt: HostRuntime) -> Result<(), Fail> {
-    let mut long = Vec::from_slice(rt.alloc(), b"10 ")?;
-    for _ in 0..300 {
-        long.push(b'a')?;
-    }
-    let rows = [
-        ("\"A", BasicFault::TooLong { line: 1 }),
-        ("A", BasicFault::TokenByte { line: 1 }),
-        ("{$00}", BasicFault::ZeroByte { line: 1 }),
-        ("{$00}A", BasicFault::TokenByte { line: 1 }),
-    ];
-    for (end, fault) in rows {
-        let mut text = Vec::from_slice(rt.alloc(), &long)?;
-        text.extend_from_slice(end.as_bytes())?;
-        assert_eq!(rt;
-            crunch(rt.alloc(), 0x0801, &text).err(),
-            Some(fault),
-            "of {end:?}"
-        );
-    }
-    Ok(())
-}
-
-#[test]
 fn lists_what_reads_as_a_program(rt: HostRuntime) -> Result<(), Fail> {
     let lying = list(rt.alloc(), b"\x01\x08\xff\xff\x0a\x00A\x00\x00\x00w")?;
     assert_eq!(rt; lying.as_slice(), b"10 a\n".as_slice());
@@ -205,31 +160,6 @@ fn knows_each_keyword_alone(rt: HostRuntime) -> Result<(), Fail> {
         token = token.wrapping_add(1);
     }
     assert_eq!(rt; token, 0xcc);
-    Ok(())
-}
-
-#[test]
-fn knows_each_keyword_in_a_name(rt: HostRuntime) -> Result<(), Fail> {
-    let mut token: u8 = 0x80;
-    for keyword in KEYWORDS.split(' ') {
-        let text = format!(in rt.alloc(); "7 x{keyword}x\n")?;
-        let file = [1, 8, 9, 8, 7, 0, b'X', token, b'X', 0, 0, 0];
-        assert!(rt;
-            crunches_and_lists(rt.alloc(), text.as_str(), &file, text.as_str())?,
-            "of {keyword}"
-        );
-        token = token.wrapping_add(1);
-    }
-    Ok(())
-}
-
-#[test]
-fn finds_keywords_without_spaces(rt: HostRuntime) -> Result<(), Fail> {
-    let names = crunch(rt.alloc(), 0x0801, b"1 forest toto ifa")?;
-    assert_eq!(rt;
-        names.as_slice(),
-        b"\x01\x08\x10\x08\x01\x00\x81EST \xa4\xa4 \x8bA\x00\x00\x00".as_slice()
-    );
     Ok(())
 }
 

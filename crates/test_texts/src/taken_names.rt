@@ -86,18 +86,3 @@ fn no_name_is_given_twice(rt: HostRuntime) -> Result<(), Fail> {
     }
     Ok(())
 }
-
-/// A directory of one track may have 144 files of one name.
-#[test]
-fn equal_names_are_numbered(rt: HostRuntime) -> Result<(), Fail> {
-    let mut taken = TakenNames::new(rt.alloc());
-    let mut name = Vec::new(rt.alloc());
-    taken.take(b"x", Prg, false, &mut name)?;
-    assert_eq!(rt; name.as_slice(), b"x.prg".as_slice());
-    for number in 2..=144 {
-        let wanted = format!(in rt.alloc(); "x ({number}).prg")?;
-        taken.take(b"x", Prg, false, &mut name)?;
-        assert_eq!(rt; name.as_slice(), wanted.as_bytes());
-    }
-    Ok(())
-}

@@ -1,7 +1,7 @@
 use Rattle.std.proofs.Common.{◌≡◌, ◌≤◌, ◌++◌, take, length}
-use Rattle.out_messages.specs.CheckText.{faults_of}
-use Rattle.out_messages.proofs.FaultCounts.{lines_within}
-use Rattle.out_messages.proofs.image_text.push_lines_of.Given as goal
+use Rattle.cmd_check.specs.CheckText.{faults_of}
+use Rattle.cmd_check.proofs.FaultCounts.{lines_within}
+use Rattle.cmd_check.proofs.image_text.push_lines_of.Given as goal
 
 abbrev pub invariant-loop-fault : goal.invariant-loop-fault
 invariant-loop-fault l = record {

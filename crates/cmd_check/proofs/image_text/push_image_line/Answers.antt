@@ -1,9 +1,10 @@
 use Rattle.std.proofs.Common.{List, ℕ, ◌++◌, ap, ◌∙◌}
 use Rattle.std.specs.Prelude.{codes}
 use Rattle.host_names.specs.Shown.{shown_name}
-use Rattle.out_messages.specs.CheckText.{label_text, contents_text, state_text, image_line}
+use Rattle.out_messages.specs.StateText.{label_text, contents_text, state_text}
+use Rattle.cmd_check.specs.CheckText.{image_line}
 use Rattle.out_messages.proofs.Joins.{join4, join5}
-use Rattle.out_messages.proofs.image_text.push_image_line.Goals as goal
+use Rattle.cmd_check.proofs.image_text.push_image_line.Goals as goal
 
 pub returns : goal.returns
 unfolding image_line

@@ -2,8 +2,8 @@ use Rattle.std.proofs.Common.{◌≡◌, ◌++◌}
 use Rattle.std.specs.List.{flat_map}
 use Rattle.d64_files.specs.Slot.{EntryView}
 use Rattle.d64_survey.specs.Owners.{way_slots}
-use Rattle.out_messages.specs.FileText.{file_line, file_lines}
-use Rattle.out_messages.proofs.file_text.push_file_lines.Given as goal
+use Rattle.cmd_check.specs.FileLines.{file_line, file_lines}
+use Rattle.cmd_check.proofs.file_lines.push_file_lines.Given as goal
 
 abbrev pub invariant-loop-entry : goal.invariant-loop-entry
 invariant-loop-entry l =

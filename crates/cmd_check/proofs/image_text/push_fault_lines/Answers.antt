@@ -1,8 +1,8 @@
 use Rattle.std.proofs.Common.{◌≡◌, ◌∙◌, ℕ, ◌-◌, ◌++◌, List, ap, arith}
 use Rattle.std.specs.List.{flat_map, range_with_len}
 use Rattle.d64_survey.proofs.FaultLists.{listed_more}
-use Rattle.out_messages.specs.CheckText.{first_lines, faults_of, fault_lines}
-use Rattle.out_messages.proofs.image_text.push_fault_lines.Goals as goal
+use Rattle.cmd_check.specs.CheckText.{first_lines, faults_of, fault_lines}
+use Rattle.cmd_check.proofs.image_text.push_fault_lines.Goals as goal
 
 pub loop-number-preserved : goal.loop-number-preserved
 loop-number-preserved c =

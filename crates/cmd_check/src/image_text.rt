@@ -1,20 +1,17 @@
-//! The text of an image, as `check` prints it.
+//! The text of an image for people.
 ghost use Rattle.std.specs.Prelude.{◌≡◌, ◌++◌, nat_lt, if◌then◌else◌, [], OnOk};
-ghost use Rattle.out_messages.specs.CheckText.{label_text, contents_text, faults_text, joining, and_so_many, is_read_sound, is_clean, state_text, image_line, fault_line, most_lines, more_text, more_line, first_lines, faults_of, fault_lines, read_error_lines, unowned_by, unowned_line, check_text as check_text_of};
+ghost use Rattle.std.specs.List.{list_any};
 ghost use Rattle.out_messages.specs.FaultText.{read_error_text};
 ghost use Rattle.out_messages.specs.Words.{line_below};
+ghost use Rattle.cmd_check.specs.CheckText.{image_line, fault_line, most_lines, more_text, more_line, first_lines, faults_of, fault_lines, read_error_lines, unowned_by, is_of_unowned as is_of_unowned_in, unowned_line, check_text as check_text_of};
 
-use crate::doubt_text::{any_of_unowned, push_doubts, push_unowned_text};
-use crate::fault_text::{push_fault, push_read_error};
-use crate::file_text::push_file_lines;
-use crate::number::push_number;
-use crate::words::{LINE_END, LINE_START, push_count, push_quoted};
-use d64_files::{disk_id, disk_name};
-use d64_image::Image;
-use d64_map::blocks_free;
-use d64_survey::{Fault, Inspection, ReadError, Survey};
+use crate::file_lines::{LINE_END, LINE_START, push_file_lines};
+use d64_survey::{Doubt, Fault, Inspection, ReadError, Survey};
 use host_names::push_shown;
-use petscii::push_spelling;
+use out_messages::{
+    push_contents, push_fault, push_label, push_number, push_read_error, push_state,
+    push_unowned_text,
+};
 use std::alloc::AllocError;
 
 /// The conditions of a sound image are numbered from 1 up to this.
@@ -22,97 +19,6 @@ const CONDITIONS: u8 = 6;
 
 /// How many faults with the same number have a line each.
 const MOST_LINES: usize = 10;
-
-/// Appends the disk's name and its id.
-#[tactic(auto, unfolding(crate::specs::CheckText::label_text))]
-pub fn push_label(out: &mut Vec<u8>, image: &Image) -> Result<(), AllocError>
-    ensures { OnOk result (out.new.items ≡ out.old.items ++ label_text image.now) }
-{
-    push_quoted(out, disk_name(image))?;
-    out.extend_from_slice(b" ")?;
-    push_spelling(out, disk_id(image))
-}
-
-/// Appends how many files and free blocks there are.
-#[tactic(auto, unfolding(crate::specs::CheckText::contents_text))]
-pub fn push_contents(out: &mut Vec<u8>, inspection: &Inspection) -> Result<(), AllocError>
-    ensures { OnOk result (out.new.items ≡ out.old.items ++ contents_text inspection.now.image) }
-{
-    push_count(out, inspection.entries(), b"file")?;
-    out.extend_from_slice(b", ")?;
-    push_count(out, blocks_free(inspection.image()) as usize, b"block")?;
-    out.extend_from_slice(b" free")?;
-    Ok(())
-}
-
-/// Appends how many faults there are.
-fn push_faults(out: &mut Vec<u8>, count: usize) -> Result<(), AllocError>
-    ensures { OnOk result (out.new.items ≡ out.old.items ++ faults_text count) }
-{
-    if count == 0 {
-        return out.extend_from_slice(b"sound");
-    }
-    push_count(out, count, b"fault")
-}
-
-/// Returns what joins the next item to the line: after `sound` it is a contrast.
-fn joining(is_contrast: bool) -> &'static [u8]
-    ensures { result.now ≡ joining is_contrast }
-{
-    if is_contrast { b", but " } else { b", " }
-}
-
-/// Appends how many more things are wrong, if there are any.
-#[tactic(auto, unfolding(crate::specs::CheckText::and_so_many))]
-fn push_and(
-    out: &mut Vec<u8>,
-    is_contrast: bool,
-    count: usize,
-    noun: &[u8],
-) -> Result<(), AllocError>
-    ensures { OnOk result (out.new.items ≡ out.old.items ++ and_so_many is_contrast count noun.now) }
-{
-    if count == 0 {
-        return Ok(());
-    }
-    out.extend_from_slice(joining(is_contrast))?;
-    push_count(out, count, noun)
-}
-
-/// Whether there is neither a fault nor a read error.
-fn is_read_sound(inspection: &Inspection) -> bool
-    ensures { result ≡ is_read_sound inspection.now }
-{
-    inspection.is_sound() && inspection.read_errors().is_empty()
-}
-
-/// Whether there is neither a fault nor a read error nor a damaged file.
-fn is_clean(inspection: &Inspection) -> bool
-    ensures { result ≡ is_clean inspection.now }
-{
-    is_read_sound(inspection) && inspection.unwhole() == 0
-}
-
-/// Appends the state of a dump.
-#[tactic(auto, unfolding(crate::specs::CheckText::state_text))]
-pub fn push_state(out: &mut Vec<u8>, inspection: &Inspection) -> Result<(), AllocError>
-    ensures { OnOk result (out.new.items ≡ out.old.items ++ state_text inspection.now) }
-{
-    push_faults(out, inspection.faults().len())?;
-    push_and(
-        out,
-        inspection.is_sound(),
-        inspection.read_errors().len(),
-        b"read error",
-    )?;
-    push_and(
-        out,
-        is_read_sound(inspection),
-        inspection.unwhole(),
-        b"damaged file",
-    )?;
-    push_doubts(out, inspection, is_clean(inspection))
-}
 
 /// Appends the image's line.
 #[tactic(auto, unfolding(crate::specs::CheckText::image_line))]
@@ -135,7 +41,7 @@ fn push_image_line(
 }
 
 /// Appends the line of a fault.
-#[tactic(auto, unfolding(crate::specs::Words::line_below))]
+#[tactic(auto, unfolding(out_messages::specs::Words::line_below))]
 fn push_fault_line(out: &mut Vec<u8>, survey: &Survey, fault: &Fault) -> Result<(), AllocError>
     ensures { OnOk result (out.new.items ≡ out.old.items ++ fault_line survey.now fault.now) }
 {
@@ -171,7 +77,7 @@ fn push_more(out: &mut Vec<u8>, count: usize) -> Result<(), AllocError>
 }
 
 /// Appends the line for the faults beyond those that have a line each, if there are any.
-#[tactic(auto, unfolding(crate::specs::CheckText::more_line, crate::specs::Words::line_below))]
+#[tactic(auto, unfolding(crate::specs::CheckText::more_line, out_messages::specs::Words::line_below))]
 fn push_more_line(out: &mut Vec<u8>, count: usize) -> Result<(), AllocError>
     ensures { OnOk result (out.new.items ≡ out.old.items ++ more_line count) }
 {
@@ -214,7 +120,7 @@ fn push_fault_lines(out: &mut Vec<u8>, survey: &Survey, list: &[Fault]) -> Resul
 }
 
 /// Appends the line of a read error.
-#[tactic(auto, unfolding(crate::specs::Words::line_below))]
+#[tactic(auto, unfolding(out_messages::specs::Words::line_below))]
 fn push_error_line(out: &mut Vec<u8>, survey: &Survey, error: &ReadError) -> Result<(), AllocError>
     ensures { OnOk result (out.new.items ≡ out.old.items ++ line_below (read_error_text survey.now error.now)) }
 {
@@ -239,7 +145,7 @@ fn push_error_lines(
 }
 
 /// Appends the line for `count` blocks that nothing owns, if there are any.
-#[tactic(auto, unfolding(crate::specs::CheckText::unowned_by, crate::specs::Words::line_below))]
+#[tactic(auto, unfolding(crate::specs::CheckText::unowned_by, out_messages::specs::Words::line_below))]
 fn push_unowned(out: &mut Vec<u8>, count: usize) -> Result<(), AllocError>
     ensures { OnOk result (out.new.items ≡ out.old.items ++ unowned_by count) }
 {
@@ -249,6 +155,23 @@ fn push_unowned(out: &mut Vec<u8>, count: usize) -> Result<(), AllocError>
     out.extend_from_slice(LINE_START)?;
     push_unowned_text(out, count)?;
     out.extend_from_slice(LINE_END)
+}
+
+/// Whether a doubt is that blocks belong to no file.
+fn is_of_unowned(doubt: Doubt) -> bool
+    ensures { result ≡ is_of_unowned_in doubt }
+{
+    match doubt {
+        Doubt::Unowned => true,
+        Doubt::Version | Doubt::Blank | Doubt::Filler => false,
+    }
+}
+
+/// Whether one of the doubts is that blocks belong to no file.
+fn any_of_unowned(doubts: &[Doubt]) -> bool
+    ensures { result ≡ list_any is_of_unowned_in doubts.now }
+{
+    doubts.iter().any(|doubt| is_of_unowned(*doubt))
 }
 
 /// Appends the line for the blocks that nothing owns, if there are any and something is wrong. If
@@ -271,7 +194,11 @@ fn push_unowned_line(out: &mut Vec<u8>, inspection: &Inspection) -> Result<(), A
 /// something is wrong and the image's line does not name them. Of more than ten faults with the
 /// same number one line says how many more there are.
 #[tactic(auto, unfolding(crate::specs::CheckText::check_text))]
-pub fn check_text(name: &[u8], inspection: &Inspection, out: &mut Vec<u8>) -> Result<(), AllocError>
+pub(crate) fn check_text(
+    name: &[u8],
+    inspection: &Inspection,
+    out: &mut Vec<u8>,
+) -> Result<(), AllocError>
     ensures { OnOk result (out.new.items ≡ out.old.items ++ check_text_of name.now inspection.now) }
 {
     let survey = inspection.survey();

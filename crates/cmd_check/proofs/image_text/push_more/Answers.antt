@@ -1,7 +1,7 @@
 use Rattle.std.specs.Prelude.{codes, decimal}
-use Rattle.out_messages.specs.CheckText.{more_text}
+use Rattle.cmd_check.specs.CheckText.{more_text}
 use Rattle.out_messages.proofs.Joins.{join3}
-use Rattle.out_messages.proofs.image_text.push_more.Goals as goal
+use Rattle.cmd_check.proofs.image_text.push_more.Goals as goal
 
 pub returns : goal.returns
 unfolding more_text

@@ -9,7 +9,7 @@ use Rattle.std.proofs.lemmas.List.Elements.{filter_more}
 use Rattle.d64_image.specs.Disk.{Disk}
 use Rattle.d64_survey.specs.Faults.{number}
 use Rattle.d64_survey.specs.declared.fault.Fault.{Fault}
-use Rattle.out_messages.specs.CheckText.{fault_line, faults_of, most_lines}
+use Rattle.cmd_check.specs.CheckText.{fault_line, faults_of, most_lines}
 
 -- one fault more of a number
 faults_of-one : (list : List Fault) (i condition : ℕ) (fault : Fault) → i < length list → fault ≡ get_or list i fault → number fault ≡ condition

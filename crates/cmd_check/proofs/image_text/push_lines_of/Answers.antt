@@ -1,8 +1,8 @@
 use Rattle.std.proofs.Common.{◌≡◌, ◌∙◌, ℕ, length, sym, ap, Vec, Global, arith}
 use Rattle.d64_survey.specs.Faults.{number}
-use Rattle.out_messages.proofs.FaultCounts.{count-more, faults_of-other, line-more, line-same}
-use Rattle.out_messages.proofs.image_text.push_lines_of.Goals as goal
-use Rattle.out_messages.proofs.image_text.push_lines_of.Goals.{then-number+in_ok-push_first_line, else-number}
+use Rattle.cmd_check.proofs.FaultCounts.{count-more, faults_of-other, line-more, line-same}
+use Rattle.cmd_check.proofs.image_text.push_lines_of.Goals as goal
+use Rattle.cmd_check.proofs.image_text.push_lines_of.Goals.{then-number+in_ok-push_first_line, else-number}
 
 pub loop-fault-preserved : goal.loop-fault-preserved
 loop-fault-preserved c =
