@@ -3,7 +3,7 @@
 //! The policy in `head` has the digest of the script: a change of the script needs a change there,
 //! and scripts/sweep-catalogue prints the digest.
 ghost use Rattle.std.specs.Prelude.{◌≡◌, ◌++◌, OnOk};
-ghost use Rattle.cmd_catalogue.specs.Script.{gathering, showing, listening, steps, script};
+ghost use Rattle.cmd_catalogue.specs.Script.{steps, script};
 
 use std::alloc::AllocError;
 
@@ -87,38 +87,14 @@ const LISTENING: &[u8] = b"  const search = () => {\n\
 \x20 search();\n\
 });\n";
 
-/// Appends the part that gathers what is on the page.
-#[tactic(auto, unfolding(crate::specs::Script::gathering))]
-fn push_gathering(out: &mut Vec<u8>) -> Result<(), AllocError>
-    ensures { OnOk result (out.new.items ≡ out.old.items ++ gathering) }
-{
-    out.extend_from_slice(GATHERING)
-}
-
-/// Appends the part that shows and hides.
-#[tactic(auto, unfolding(crate::specs::Script::showing))]
-fn push_showing(out: &mut Vec<u8>) -> Result<(), AllocError>
-    ensures { OnOk result (out.new.items ≡ out.old.items ++ showing) }
-{
-    out.extend_from_slice(SHOWING)
-}
-
-/// Appends the part that says when the search runs.
-#[tactic(auto, unfolding(crate::specs::Script::listening))]
-fn push_listening(out: &mut Vec<u8>) -> Result<(), AllocError>
-    ensures { OnOk result (out.new.items ≡ out.old.items ++ listening) }
-{
-    out.extend_from_slice(LISTENING)
-}
-
 /// Appends all steps.
-#[tactic(auto, unfolding(crate::specs::Script::steps))]
+#[tactic(auto, unfolding(crate::specs::Script::steps, crate::specs::Script::gathering, crate::specs::Script::showing, crate::specs::Script::listening))]
 fn push_steps(out: &mut Vec<u8>) -> Result<(), AllocError>
     ensures { OnOk result (out.new.items ≡ out.old.items ++ steps) }
 {
-    push_gathering(out)?;
-    push_showing(out)?;
-    push_listening(out)
+    out.extend_from_slice(GATHERING)?;
+    out.extend_from_slice(SHOWING)?;
+    out.extend_from_slice(LISTENING)
 }
 
 /// Appends the script.

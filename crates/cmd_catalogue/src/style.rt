@@ -1,6 +1,6 @@
 //! The style of the page.
 ghost use Rattle.std.specs.Prelude.{◌≡◌, ◌++◌, OnOk};
-ghost use Rattle.cmd_catalogue.specs.Style.{page_rules, search_rules, section_rules, label_rules, table_rules, medium_rules, rules, page_style};
+ghost use Rattle.cmd_catalogue.specs.Style.{rules, page_style};
 ghost use Rattle.out_picture.specs.Style.{picture_rules};
 
 use out_picture::push_picture_rules;
@@ -85,65 +85,17 @@ summary,thead{break-after:avoid}tr,li,svg,section,details:not(:has(tr:nth-child(
 details::details-content{content-visibility:visible;display:block}details:has(svg)::details-content{display:grid;grid-template-columns:6fr 5fr;align-items:start}\n\
 details:has(svg) ul{grid-column:1/3}details:has(svg) :is(table,svg){width:auto;max-width:none;margin:0 .9rem .9rem}details:has(svg) tr :nth-child(n+2){width:auto}.whole{white-space:nowrap!important}}\n";
 
-/// Appends the rules of the colours, light and dark, and the page.
-#[tactic(auto, unfolding(crate::specs::Style::page_rules))]
-fn push_page_rules(out: &mut Vec<u8>) -> Result<(), AllocError>
-    ensures { OnOk result (out.new.items ≡ out.old.items ++ page_rules) }
-{
-    out.extend_from_slice(PAGE_RULES)
-}
-
-/// Appends the rules of the search field and its buttons.
-#[tactic(auto, unfolding(crate::specs::Style::search_rules))]
-fn push_search_rules(out: &mut Vec<u8>) -> Result<(), AllocError>
-    ensures { OnOk result (out.new.items ≡ out.old.items ++ search_rules) }
-{
-    out.extend_from_slice(SEARCH_RULES)
-}
-
-/// Appends the rules of the sections, and the marks of their state.
-#[tactic(auto, unfolding(crate::specs::Style::section_rules))]
-fn push_section_rules(out: &mut Vec<u8>) -> Result<(), AllocError>
-    ensures { OnOk result (out.new.items ≡ out.old.items ++ section_rules) }
-{
-    out.extend_from_slice(SECTION_RULES)
-}
-
-/// Appends the rules of the texts in a section.
-#[tactic(auto, unfolding(crate::specs::Style::label_rules))]
-fn push_label_rules(out: &mut Vec<u8>) -> Result<(), AllocError>
-    ensures { OnOk result (out.new.items ≡ out.old.items ++ label_rules) }
-{
-    out.extend_from_slice(LABEL_RULES)
-}
-
-/// Appends the rules of the table of files, and of the picture.
-#[tactic(auto, unfolding(crate::specs::Style::table_rules))]
-fn push_table_rules(out: &mut Vec<u8>) -> Result<(), AllocError>
-    ensures { OnOk result (out.new.items ≡ out.old.items ++ table_rules) }
-{
-    out.extend_from_slice(TABLE_RULES)
-}
-
-/// Appends the rules of what differs for the keyboard, on a narrow screen, and in print.
-#[tactic(auto, unfolding(crate::specs::Style::medium_rules))]
-fn push_medium_rules(out: &mut Vec<u8>) -> Result<(), AllocError>
-    ensures { OnOk result (out.new.items ≡ out.old.items ++ medium_rules) }
-{
-    out.extend_from_slice(MEDIUM_RULES)
-}
-
 /// Appends all rules.
-#[tactic(auto, unfolding(crate::specs::Style::rules))]
+#[tactic(auto, unfolding(crate::specs::Style::rules, crate::specs::Style::page_rules, crate::specs::Style::search_rules, crate::specs::Style::section_rules, crate::specs::Style::label_rules, crate::specs::Style::table_rules, crate::specs::Style::medium_rules))]
 fn push_rules(out: &mut Vec<u8>) -> Result<(), AllocError>
     ensures { OnOk result (out.new.items ≡ out.old.items ++ rules) }
 {
-    push_page_rules(out)?;
-    push_search_rules(out)?;
-    push_section_rules(out)?;
-    push_label_rules(out)?;
-    push_table_rules(out)?;
-    push_medium_rules(out)
+    out.extend_from_slice(PAGE_RULES)?;
+    out.extend_from_slice(SEARCH_RULES)?;
+    out.extend_from_slice(SECTION_RULES)?;
+    out.extend_from_slice(LABEL_RULES)?;
+    out.extend_from_slice(TABLE_RULES)?;
+    out.extend_from_slice(MEDIUM_RULES)
 }
 
 /// Appends all rules of the page, and those of the pictures in it.
