@@ -1,40 +1,54 @@
 -- The commands of a line: their names, how many arguments follow, and how the line is typed.
-use Rattle.std.specs.Prelude.{ℕ, List, [], ◌∷◌, find, codes}
+use Rattle.std.specs.Prelude.{ℕ, List, [], ◌∷◌, ◌++◌, find, codes}
 use Rattle.std.specs.Option.{option_map_or}
 use Rattle.std.specs.Str.{bytes_eq}
 use Rattle.d64_image.specs.Disk.{Bytes}
 use Rattle.script_hints.specs.declared.command.LineCommand.{LineCommand}
 use Rattle.script_hints.specs.declared.command.LineCommand.TheVariants.{Block, BlockRead, BlockWrite, Crunch, Delete, Format, ListHistory, Keep, ListDirectory, Name, Petcat, Quit, Read, Redo, Rename, Save, ShowText, Undelete, Undo, Validate, Write, Unknown}
 
--- the names of the commands
-abbrev pub command_words : List (Bytes × LineCommand)
-command_words =
-    (codes "block", Block)
-    ∷ (codes "bread", BlockRead)
-    ∷ (codes "bwrite", BlockWrite)
-    ∷ (codes "crunch", Crunch)
-    ∷ (codes "delete", Delete)
-    ∷ (codes "format", Format)
-    ∷ (codes "history", ListHistory)
-    ∷ (codes "keep", Keep)
+-- the names of the commands that take no arguments
+abbrev pub lone_words : List (Bytes × LineCommand)
+lone_words =
+    (codes "history", ListHistory)
     ∷ (codes "list", ListDirectory)
-    ∷ (codes "name", Name)
-    ∷ (codes "petcat", Petcat)
     ∷ (codes "quit", Quit)
-    ∷ (codes "read", Read)
     ∷ (codes "redo", Redo)
-    ∷ (codes "rename", Rename)
-    ∷ (codes "save", Save)
-    ∷ (codes "type", ShowText)
-    ∷ (codes "undelete", Undelete)
     ∷ (codes "undo", Undo)
     ∷ (codes "validate", Validate)
+    ∷ []
+
+-- those of the others that don't use the host
+abbrev pub disk_words : List (Bytes × LineCommand)
+disk_words =
+    (codes "block", Block)
+    ∷ (codes "delete", Delete)
+    ∷ (codes "format", Format)
+    ∷ (codes "name", Name)
+    ∷ (codes "petcat", Petcat)
+    ∷ (codes "rename", Rename)
+    ∷ (codes "type", ShowText)
+    ∷ (codes "undelete", Undelete)
+    ∷ []
+
+-- those of the commands that use the host
+abbrev pub host_words : List (Bytes × LineCommand)
+host_words =
+    (codes "bread", BlockRead)
+    ∷ (codes "bwrite", BlockWrite)
+    ∷ (codes "crunch", Crunch)
+    ∷ (codes "keep", Keep)
+    ∷ (codes "read", Read)
+    ∷ (codes "save", Save)
     ∷ (codes "write", Write)
     ∷ []
 
+-- the command with a name, by these rows
+abbrev pub command_in : List (Bytes × LineCommand) → Bytes → LineCommand
+command_in rows word = option_map_or (λ row. row.1) (find (λ row. bytes_eq word row.0) rows) Unknown
+
 -- the command with a name
 abbrev pub command_of : Bytes → LineCommand
-command_of word = option_map_or (λ row. row.1) (find (λ row. bytes_eq word row.0) command_words) Unknown
+command_of word = command_in (lone_words ++ disk_words ++ host_words) word
 
 -- the most arguments that a command takes
 abbrev pub most_words : LineCommand → ℕ

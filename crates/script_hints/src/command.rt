@@ -1,6 +1,6 @@
 //! The commands of a line: their names, how many arguments follow, and how the line is typed.
-ghost use Rattle.std.specs.Prelude.{◌≡◌};
-ghost use Rattle.script_hints.specs.Command.{command_of, most_words, usage};
+ghost use Rattle.std.specs.Prelude.{◌≡◌, ◌++◌};
+ghost use Rattle.script_hints.specs.Command.{command_in, command_of, disk_words, host_words, most_words, usage};
 
 /// The command of a line.
 #[derive(Clone, Copy)]
@@ -36,28 +36,13 @@ impl LineCommand {
         ensures { result ≡ command_of word.now }
     {
         match word {
-            "block" => LineCommand::Block,
-            "bread" => LineCommand::BlockRead,
-            "bwrite" => LineCommand::BlockWrite,
-            "crunch" => LineCommand::Crunch,
-            "delete" => LineCommand::Delete,
-            "format" => LineCommand::Format,
             "history" => LineCommand::ListHistory,
-            "keep" => LineCommand::Keep,
             "list" => LineCommand::ListDirectory,
-            "name" => LineCommand::Name,
-            "petcat" => LineCommand::Petcat,
             "quit" => LineCommand::Quit,
-            "read" => LineCommand::Read,
             "redo" => LineCommand::Redo,
-            "rename" => LineCommand::Rename,
-            "save" => LineCommand::Save,
-            "type" => LineCommand::ShowText,
-            "undelete" => LineCommand::Undelete,
             "undo" => LineCommand::Undo,
             "validate" => LineCommand::Validate,
-            "write" => LineCommand::Write,
-            _ => LineCommand::Unknown,
+            _ => on_the_disk(word),
         }
     }
 
@@ -119,5 +104,38 @@ impl LineCommand {
             LineCommand::Write => b"write HOST [NAME[,T]]",
             LineCommand::Unknown => b"d64sh help shell lists the commands",
         }
+    }
+}
+
+/// The command with this name that has arguments and does not use the host, or one of those below.
+fn on_the_disk(word: &str) -> LineCommand
+    ensures { result ≡ command_in (disk_words ++ host_words) word.now }
+{
+    match word {
+        "block" => LineCommand::Block,
+        "delete" => LineCommand::Delete,
+        "format" => LineCommand::Format,
+        "name" => LineCommand::Name,
+        "petcat" => LineCommand::Petcat,
+        "rename" => LineCommand::Rename,
+        "type" => LineCommand::ShowText,
+        "undelete" => LineCommand::Undelete,
+        _ => with_the_host(word),
+    }
+}
+
+/// The command with this name that uses the host.
+fn with_the_host(word: &str) -> LineCommand
+    ensures { result ≡ command_in host_words word.now }
+{
+    match word {
+        "bread" => LineCommand::BlockRead,
+        "bwrite" => LineCommand::BlockWrite,
+        "crunch" => LineCommand::Crunch,
+        "keep" => LineCommand::Keep,
+        "read" => LineCommand::Read,
+        "save" => LineCommand::Save,
+        "write" => LineCommand::Write,
+        _ => LineCommand::Unknown,
     }
 }

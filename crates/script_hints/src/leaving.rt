@@ -42,10 +42,7 @@ pub(crate) fn keep_session<H: Host>(
 fn session_name(alloc: Global, image: &str) -> Result<String, AllocError>
     ensures { IfOk result (λ name. name.bytes.items ≡ session_name image.now) }
 {
-    let mut name = String::new(alloc);
-    name.push_str(image)?;
-    name.push_str(".session")?;
-    Ok(name)
+    [image, ".session"].concat(alloc)
 }
 
 /// The line that says that changes are kept in the file with this name.
