@@ -3,7 +3,7 @@ use Rattle.std.proofs.Common.{◌≡◌, ℕ, Bool, true, false, List, Result, O
 use Rattle.std.specs.Prelude.{IfOk}
 use Rattle.script_text.specs.Output.{Account}
 use Rattle.program_arguments.specs.declared.jobs.Job.{Job}
-use Rattle.program_batch.specs.Answers.{KeepsQuiet, Rule, by_rule}
+use Rattle.program_batch.specs.Answers.{Effects, KeepsQuiet, by_rule}
 use Rattle.program_surveys.specs.Printings.{Printing, survey_rule}
 use Rattle.program_surveys.proofs.Quiet.{survey-is_quiet}
 use Rattle.cmd_extract.specs.Effects.{unpacks}
@@ -12,7 +12,7 @@ use Rattle.cmd_extract.specs.declared.unpacker.Unpacker.{Unpacker}
 use Rattle.cmd_extract.proofs.QuietWork.{clean_is_quiet}
 use Rattle.script_run.specs.Transcript.{RunOptions}
 use Rattle.cmd_shell.specs.Beginnings.{Beginning, Source}
-use Rattle.d64_shell.specs.Jobs.{JobWork, Script, Survey, Extraction, PassesOver, work_of}
+use Rattle.d64_shell.specs.Jobs.{JobWork, Script, work_of}
 use Rattle.program_surveys.specs.SurveyFiles.{SurveyFiles}
 use Rattle.program_console.specs.Outside.{Outside}
 use Rattle.program_console.specs.Faults.{Reports}
@@ -21,13 +21,10 @@ use Rattle.cmd_shell.specs.ShellRuns.{EndedShell}
 use Rattle.program_surveys.specs.JobEnds.{EndedSurvey}
 use Rattle.d64_shell.specs.Program.{EndedWork}
 
--- a job whose work is a survey has ended as that has
-pub survey_ended : (job : Job) (rule : Rule) (heading : List ℕ) (files shown : SurveyFiles) (old new : Outside) (status : ℕ)
-    → work_of job ≡ Survey rule heading files → shown ≡ files → EndedSurvey (by_rule rule) heading shown old new status
-    → EndedWork (work_of job) old new status
-survey_ended job rule heading files shown old new status is same ended =
-    subst (λ (work : JobWork). EndedWork work old new status) (sym is)
-    (subst (λ (f : SurveyFiles). EndedSurvey (by_rule rule) heading f old new status) same ended)
+-- a survey of files has ended as one of the same files has
+pub survey_of : (effects : Effects) (heading : List ℕ) (files shown : SurveyFiles) (old new : Outside) (status : ℕ)
+    → shown ≡ files → EndedSurvey effects heading shown old new status → EndedSurvey effects heading files old new status
+survey_of effects heading files shown old new status same ended = subst (λ (f : SurveyFiles). EndedSurvey effects heading f old new status) same ended
 
 -- a report writes nothing to the standard error about a clean image, if there was memory to begin
 pub report_is_quiet : {A E : Type 0} (made : Result A E) (printing : A → Printing) → IfOk made (λ report. KeepsQuiet (by_rule (survey_rule (printing report))))
@@ -44,30 +41,18 @@ script_ended job beginning begun source from options at old new status is same_b
     (subst (λ (s : Source). EndedShell beginning s at old new status) same_source
     (subst (λ (b : Beginning). EndedShell b from at old new status) same_beginning ended)))
 
--- a job whose work is an extraction has ended as that has
-pub extraction_ended : (job : Job) (setup : ExtractSetupView) (heading : List ℕ) (files shown : SurveyFiles) (old new : Outside) (status : ℕ)
-    → work_of job ≡ Extraction setup heading files → shown ≡ files → EndedSurvey (unpacks setup) heading shown old new status
-    → EndedWork (work_of job) old new status
-extraction_ended job setup heading files shown old new status is same ended =
-    subst (λ (work : JobWork). EndedWork work old new status) (sym is)
-    (subst (λ (f : SurveyFiles). EndedSurvey (unpacks setup) heading f old new status) same ended)
-
 -- the line of a fault is written to what the standard error was before, if it is the same then
 pub reports_after : (fault : ProgramFault) (error same reported : Account) (status : ℕ) → same ≡ error → Reports fault same reported status → Reports fault error reported status
 reports_after fault error same reported status is reports = subst (λ (a : Account). Reports fault a reported status) is reports
 
--- an extraction that skips nothing
 not_true : (test : Bool) → (test ≡ true → ⊥) → test ≡ false
 not_true true refuted = absurd (refuted refl)
 not_true false refuted = refl
 
-passes_not : (job : Job) (setup : ExtractSetupView) (heading : List ℕ) (files : SurveyFiles) → work_of job ≡ Extraction setup heading files → (PassesOver (work_of job) → ⊥) → setup.skips ≡ false
-passes_not job setup heading files is passes = not_true setup.skips (λ skips. passes (subst PassesOver (sym is) skips))
-
--- writes nothing to the standard error about a clean image, if there was memory to begin
-pub extraction_is_quiet : {E : Type 0} (job : Job) (setup : ExtractSetupView) (heading : List ℕ) (files : SurveyFiles) (made : Result Unpacker E)
-    → work_of job ≡ Extraction setup heading files → IfOk made (λ unpacker. unpacker.setup ≡ setup) → (PassesOver (work_of job) → ⊥)
-    → IfOk made (λ unpacker. KeepsQuiet (unpacks unpacker.setup))
-extraction_is_quiet job setup heading files (Ok unpacker) is made passes =
-    subst (λ (s : ExtractSetupView). KeepsQuiet (unpacks s)) (sym made) (clean_is_quiet setup (passes_not job setup heading files is passes))
-extraction_is_quiet job setup heading files (Err error) is made passes = tt
+-- an extraction that skips nothing writes nothing to the standard error about a clean image, if
+-- there was memory to begin
+pub extraction_is_quiet : {E : Type 0} (setup : ExtractSetupView) (made : Result Unpacker E)
+    → IfOk made (λ unpacker. unpacker.setup ≡ setup) → (setup.skips ≡ true → ⊥) → IfOk made (λ unpacker. KeepsQuiet (unpacks unpacker.setup))
+extraction_is_quiet setup (Ok unpacker) made unskipped =
+    subst (λ (s : ExtractSetupView). KeepsQuiet (unpacks s)) (sym made) (clean_is_quiet setup (not_true setup.skips unskipped))
+extraction_is_quiet setup (Err error) made unskipped = tt

@@ -1,5 +1,5 @@
 //! The program `d64sh`, from its arguments to its exit status.
-ghost use Rattle.std.specs.Prelude.{◌≡◌, ◌≢◌, ◌≤◌, Bool, false, map, option_copied};
+ghost use Rattle.std.specs.Prelude.{◌≡◌, ◌≢◌, ◌≤◌, Bool, false, map, option_map, string_bytes};
 ghost use Rattle.script_text.specs.Input.{Reading, reading_of};
 ghost use Rattle.script_text.specs.Output.{account_of};
 ghost use Rattle.program_console.specs.Console.{IsDelivered, IsFresh, SameStreams};
@@ -7,24 +7,20 @@ ghost use Rattle.d64_shell.specs.Jobs.{IsScript, PassesOver, work_of};
 ghost use Rattle.d64_shell.specs.Program.{AsksForShell, AsksToPassOver, Ended, EndedWork};
 ghost use Rattle.program_console.specs.Outside.{outside_at, outside_of};
 ghost use Rattle.cmd_basic.specs.ToolRuns.{EndedConversion};
+ghost use Rattle.cmd_shell.specs.Scripts.{beginning_in, options_in, source_in};
+ghost use Rattle.cmd_shell.specs.ShellRuns.{EndedShell};
 
 use crate::asking::requested_job;
-use crate::extraction::setup_of;
-use crate::merging::merge_setup_of;
+use crate::comparison::compare_files;
+use crate::extraction::extract_files;
+use crate::merging::merge_files;
+use crate::surveys::{check_disks, draw_map, make_catalogue, print_files};
 use cmd_basic::{Tool, ToolJob};
-use cmd_catalogue::CataloguePrinter;
-use cmd_check::CheckPrinter;
-use cmd_diff::DifferenceJob;
-use cmd_extract::Unpacker;
-use cmd_files::FilesPrinter;
-use cmd_map::MapPrinter;
-use cmd_merge::MergeJob;
 use cmd_shell::{ShellJob, exit_status, refusals_of};
 use host_storage::{Host, HostFault};
 use out_files::Form;
 use program_arguments::Job;
 use program_console::{Console, NOT_RUN, report_no_job};
-use program_surveys::{FileNames, SurveyJob, SurveyReport, run_whole};
 use script_run::{Nobody, Observer};
 use script_text::input::InputStream;
 use script_text::output::OutputStream;
@@ -107,33 +103,6 @@ impl<'l, L: Observer> ObservedProgram<'l, L> {
         }
     }
 
-    /// Runs a tool, and returns the exit status. If the tool has not run, the observer gets the name
-    /// of its file: that may be what cannot be read.
-    fn run_tool<R: Read, W: Write, F: Write, H: Host>(
-        self,
-        job: ToolJob<'_>,
-        console: &mut Console<'_, R, W, F>,
-        host: &mut H,
-    ) -> u8
-        requires fresh { IsFresh console.old }
-        ensures same { SameStreams console.old console.new }
-        ensures ended { EndedConversion job.entry.tool (option_copied job.entry.file) (option_copied job.entry.target)
-            (outside_at R.remaining W.contents F.contents console.old (H.state host.old))
-            (outside_at R.remaining W.contents F.contents console.new (H.state host.new)) result }
-        ensures status { result ≤ 2 }
-        ensures delivered { result ≡ 0 → IsDelivered console.new.outputs.output }
-        ensures silent { result ≡ 0 → console.new.outputs.faults ≡ console.old.outputs.faults }
-    {
-        let ObservedProgram { alloc, observer } = self;
-        let status = job.run(alloc, console, host);
-        if status == NOT_RUN {
-            if let Some(name) = job.file {
-                observer.miss(name, Err(HostFault::Device));
-            }
-        }
-        status
-    }
-
     /// Does a job, and returns the exit status.
     fn do_job<R: Read, W: Write, F: Write, H: Host>(
         self,
@@ -167,53 +136,26 @@ impl<'l, L: Observer> ObservedProgram<'l, L> {
                     lines: lines.as_slice(),
                     refusals: refusals_of(stops_at_refusal),
                 };
-                match job.run(alloc, console, host, self.observer) {
-                    Ok(outcome) => exit_status(outcome),
-                    Err(fault) => fault.report_on(&mut console.outputs.faults),
-                }
+                self.run_script(job, console, host)
             }
-            Job::Petcat {
-                file,
-                output: target,
-            } => {
-                let job = ToolJob {
-                    tool: Tool::Petcat,
-                    file: file.as_deref(),
-                    target: target.as_deref(),
-                };
-                self.run_tool(job, console, host)
+            Job::Petcat { file, output } => {
+                self.run_tool(Tool::Petcat, file, output, console, host)
             }
             Job::Crunch {
                 start,
                 file,
-                output: target,
-            } => {
-                let job = ToolJob {
-                    tool: Tool::Crunch { start },
-                    file: file.as_deref(),
-                    target: target.as_deref(),
-                };
-                self.run_tool(job, console, host)
-            }
+                output,
+            } => self.run_tool(Tool::Crunch { start }, file, output, console, host),
             Job::Check {
                 digest,
                 format,
                 names,
-            } => {
-                let printer = CheckPrinter::new(alloc, format, digest);
-                let report = SurveyReport::new(alloc, printer);
-                SurveyJob::new(alloc, FileNames::of(&names)).run(report, console, host)
-            }
+            } => check_disks(alloc, digest, format, names, console, host),
             Job::Files {
                 leftovers,
                 format,
                 names,
-            } => {
-                let form = Form { format, leftovers };
-                let printer = FilesPrinter::new(alloc, form);
-                let report = SurveyReport::new(alloc, printer);
-                SurveyJob::new(alloc, FileNames::of(&names)).run(report, console, host)
-            }
+            } => print_files(alloc, Form { format, leftovers }, names, console, host),
             Job::Extract {
                 extraction,
                 leftovers,
@@ -221,32 +163,75 @@ impl<'l, L: Observer> ObservedProgram<'l, L> {
                 names,
             } => {
                 let form = Form { format, leftovers };
-                let task = Unpacker::new(alloc, setup_of(extraction, form));
-                SurveyJob::new(alloc, FileNames::of(&names)).run(task, console, host)
+                extract_files(alloc, extraction, form, names, console, host)
             }
-            Job::Map { format, file } => {
-                let printer = MapPrinter::new(format);
-                let report = SurveyReport::new(alloc, printer);
-                let files = [file];
-                SurveyJob::new(alloc, FileNames::Given(&files)).run(report, console, host)
-            }
-            Job::Catalogue { page, names } => {
-                let printer = CataloguePrinter::new(alloc, page);
-                let report = SurveyReport::new(alloc, printer);
-                SurveyJob::new(alloc, FileNames::of(&names)).run(report, console, host)
-            }
+            Job::Map { format, file } => draw_map(alloc, format, file, console, host),
+            Job::Catalogue { page, names } => make_catalogue(alloc, page, names, console, host),
             Job::Diff { format, old, new } => {
-                let task = DifferenceJob::new(alloc, format, old.as_str(), new.as_str());
-                run_whole(alloc, &task, console, host)
+                compare_files(alloc, format, old, new, console, host)
             }
             Job::Merge {
                 merging,
                 format,
                 files,
-            } => {
-                let setup = merge_setup_of(merging, format, files);
-                run_whole(alloc, &MergeJob::new(alloc, &setup), console, host)
+            } => merge_files(alloc, merging, format, files, console, host),
+        }
+    }
+
+    /// Runs a script, and returns the exit status.
+    fn run_script<R: Read, W: Write, F: Write, H: Host>(
+        self,
+        job: ShellJob<'_>,
+        console: &mut Console<'_, R, W, F>,
+        host: &mut H,
+    ) -> u8
+        requires fresh { IsFresh console.old }
+        ensures same { SameStreams console.old console.new }
+        ensures ended { EndedShell (beginning_in job.entry) (source_in job.entry) (options_in job.entry)
+            (outside_at R.remaining W.contents F.contents console.old (H.state host.old))
+            (outside_at R.remaining W.contents F.contents console.new (H.state host.new)) result }
+        ensures status { result ≤ 2 }
+        ensures delivered { result ≡ 0 → IsDelivered console.new.outputs.output }
+        ensures silent { result ≢ 2 → console.new.outputs.faults ≡ console.old.outputs.faults }
+    {
+        match job.run(self.alloc, console, host, self.observer) {
+            Ok(outcome) => exit_status(outcome),
+            Err(fault) => fault.report_on(&mut console.outputs.faults),
+        }
+    }
+
+    /// Runs a tool on the input or on a file, to the output or to another file, and returns the
+    /// exit status. If the tool has not run, the observer gets the name of the file: that may be
+    /// what cannot be read.
+    fn run_tool<R: Read, W: Write, F: Write, H: Host>(
+        self,
+        tool: Tool,
+        file: Option<String>,
+        target: Option<String>,
+        console: &mut Console<'_, R, W, F>,
+        host: &mut H,
+    ) -> u8
+        requires fresh { IsFresh console.old }
+        ensures same { SameStreams console.old console.new }
+        ensures ended { EndedConversion tool (option_map string_bytes file) (option_map string_bytes target)
+            (outside_at R.remaining W.contents F.contents console.old (H.state host.old))
+            (outside_at R.remaining W.contents F.contents console.new (H.state host.new)) result }
+        ensures status { result ≤ 2 }
+        ensures delivered { result ≡ 0 → IsDelivered console.new.outputs.output }
+        ensures silent { result ≡ 0 → console.new.outputs.faults ≡ console.old.outputs.faults }
+    {
+        let ObservedProgram { alloc, observer } = self;
+        let job = ToolJob {
+            tool,
+            file: file.as_deref(),
+            target: target.as_deref(),
+        };
+        let status = job.run(alloc, console, host);
+        if status == NOT_RUN {
+            if let Some(name) = job.file {
+                observer.miss(name, Err(HostFault::Device));
             }
         }
+        status
     }
 }

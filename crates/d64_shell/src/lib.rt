@@ -3,9 +3,11 @@
 #![tactic(auto)]
 
 mod asking;
+mod comparison;
 mod entry;
 mod extraction;
 mod merging;
+mod surveys;
 
 pub use cmd_basic::{ToolFault, crunch_run, petcat_run};
 pub use d64_dos::{Command, Refusal, Reply};
