@@ -34,12 +34,12 @@ abbrev pub most_lines : ℕ
 most_lines = 10
 
 -- how many more there are
-unfoldable pub more_text : ℕ → List ℕ
-more_text count = codes "and " ++ (decimal count ++ codes " more of these")
+unfoldable pub more_faults_text : ℕ → List ℕ
+more_faults_text count = codes "and " ++ (decimal count ++ codes " more of these")
 
 -- the line for the faults beyond the first, if there are any
 unfoldable pub more_line : ℕ → List ℕ
-more_line count = if nat_lt most_lines count then line_below (more_text (count - most_lines)) else []
+more_line count = if nat_lt most_lines count then line_below (more_faults_text (count - most_lines)) else []
 
 -- a line for each of the first faults of a list, and one for the others
 abbrev pub first_lines : Disk → List Fault → List ℕ

@@ -3,7 +3,7 @@ ghost use Rattle.std.specs.Prelude.{◌≡◌, ◌++◌, nat_lt, if◌then◌els
 ghost use Rattle.std.specs.List.{list_any};
 ghost use Rattle.out_messages.specs.FaultText.{read_error_text};
 ghost use Rattle.out_messages.specs.Words.{line_below};
-ghost use Rattle.cmd_check.specs.CheckText.{image_line, fault_line, most_lines, more_text, more_line, first_lines, faults_of, fault_lines, read_error_lines, unowned_by, is_of_unowned as is_of_unowned_in, unowned_line, check_text as check_text_of};
+ghost use Rattle.cmd_check.specs.CheckText.{image_line, fault_line, most_lines, more_faults_text, more_line, first_lines, faults_of, fault_lines, read_error_lines, unowned_by, is_of_unowned as is_of_unowned_in, unowned_line, check_text as check_text_of};
 
 use crate::file_lines::{LINE_END, LINE_START, push_file_lines};
 use d64_survey::{Doubt, Fault, Inspection, ReadError, Survey};
@@ -66,9 +66,9 @@ fn push_first_line(
 }
 
 /// Appends how many more faults with a number there are.
-#[tactic(auto, unfolding(crate::specs::CheckText::more_text))]
+#[tactic(auto, unfolding(crate::specs::CheckText::more_faults_text))]
 fn push_more(out: &mut Vec<u8>, count: usize) -> Result<(), AllocError>
-    ensures { OnOk result (out.new.items ≡ out.old.items ++ more_text count) }
+    ensures { OnOk result (out.new.items ≡ out.old.items ++ more_faults_text count) }
 {
     out.extend_from_slice(b"and ")?;
     push_number(out, count)?;
