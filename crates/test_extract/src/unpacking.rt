@@ -1,9 +1,9 @@
 //! Each call of the host fails in turn.
 
 use cmd_extract::{ExtractSetup, Unpacker};
-use out_files::Form;
 use host_memory::MemoryHost;
 use host_storage::Host;
+use out_files::Form;
 use program_arguments::{Format, Leftovers};
 use program_batch::{FileTask, ReportBuffer, Verdict};
 use std::alloc::Global;
