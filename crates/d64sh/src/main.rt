@@ -2,10 +2,10 @@
 //! `d64_shell`, and shows the progress of a long run.
 #![tactic(auto)]
 
-use d64_shell::{
-    Console, FolderHost, Job, ObservedProgram, Observer, ProgramFault, Subcommand, job,
-};
-use host_storage::{Retrying, SizeLimit, StandardStream};
+ghost use Rattle.program_console.specs.Console.{IsFresh};
+
+use d64_shell::{Console, FolderHost, Job, ObservedProgram, ProgramFault, Subcommand, job};
+use host_storage::{Host, Retrying, SizeLimit, StandardStream};
 use program_console::{
     MarkingWriter, ProgressLine, QuietWriter, WatchedHost, WipingWriter, WithinLimit,
 };
@@ -15,7 +15,7 @@ use script_text::output::OutputStream;
 use std::alloc::Global;
 use std::cell::Cell;
 use std::env;
-use std::io::{self, BufWriter, ErrorKind, IsTerminal, Write};
+use std::io::{self, BufWriter, ErrorKind, IsTerminal, Read, Write};
 use std::process::ExitCode;
 
 /// The exit status if nothing was done.
@@ -64,7 +64,8 @@ fn start<'a, E: Write>(
     run_program(rt, limit, line, output, errors, words.as_slice())
 }
 
-/// Runs the program with these arguments on an output and the process's other streams.
+/// Runs the program with these arguments on an output, the process's other streams and the files
+/// of the system.
 fn run_program<'a, O: Write + Drop, E: Write>(
     rt: &'a HostRuntime,
     limit: &'a SizeLimit,
@@ -75,28 +76,43 @@ fn run_program<'a, O: Write + Drop, E: Write>(
 ) -> Result<u8, ProgramFault> {
     let mut output = BufWriter::new(rt.alloc(), output).map_err(|_| ProgramFault::Memory)?;
     let mut input = Retrying(rt.stdin());
-    let is_terminal = rt.stdin().is_terminal() && rt.stderr().is_terminal();
-    let hints = WithinLimit::new(rt, limit, StandardStream::Error, rt.stderr());
-    let mut hints = Retrying(hints);
-    let mut advisor = Advisor::new(rt.alloc(), is_terminal, &mut hints, FolderHost::new(rt));
-    if rt.stderr().is_terminal() {
-        advisor.explain_misses();
-    }
-    let program = program_with(rt.alloc(), &mut advisor);
     let mut console = Console::new(
         InputStream::new(&mut input),
         OutputStream::new(&mut output),
         OutputStream::new(errors),
     );
     let mut host = WatchedHost::new(line, FolderHost::new(rt));
-    let status = program.run(words, &mut console, &mut host);
-    advisor.end_without_session();
-    Ok(status)
+    let hints = WithinLimit::new(rt, limit, StandardStream::Error, rt.stderr());
+    let mut hints = Retrying(hints);
+    let advisor_host = FolderHost::new(rt);
+    Ok(run_advised(rt, &mut hints, advisor_host, words, &mut console, &mut host))
 }
 
-/// Returns the program, with this observer.
-fn program_with<'l, L: Observer>(alloc: Global, observer: &'l mut L) -> ObservedProgram<'l, L> {
-    ObservedProgram { alloc, observer }
+/// Runs the program with these arguments on a console and a host. An advisor has a writer to
+/// standard error and a host of its own. For any types of these two the proof takes a third of what
+/// it takes for those of the process.
+fn run_advised<A: Write, K: Host + Drop, R: Read, W: Write, F: Write, H: Host>(
+    rt: &HostRuntime,
+    hints: &mut A,
+    advisor_host: K,
+    words: &[&str],
+    console: &mut Console<'_, R, W, F>,
+    host: &mut H,
+) -> u8
+    requires fresh { IsFresh console.old }
+{
+    let is_terminal = rt.stdin().is_terminal() && rt.stderr().is_terminal();
+    let mut advisor = Advisor::new(rt.alloc(), is_terminal, hints, advisor_host);
+    if rt.stderr().is_terminal() {
+        advisor.explain_misses();
+    }
+    let program = ObservedProgram {
+        alloc: rt.alloc(),
+        observer: &mut advisor,
+    };
+    let status = program.run(words, console, host);
+    advisor.end_without_session();
+    status
 }
 
 /// Whether the arguments ask for a program on the output, as `crunch` writes it without `-o`; false
@@ -106,10 +122,12 @@ fn asks_for_program(alloc: Global, words: &[&str]) -> bool {
     if named.push("d64sh").is_err() || named.extend_from_slice(words).is_err() {
         return false;
     }
-    matches!(
-        job(alloc, named.as_slice()),
-        Ok(Job::Crunch { output: None, .. })
-    )
+    job(alloc, named.as_slice()).is_ok_and(|job| is_for_program(&job))
+}
+
+/// Whether a job is to write a program to the output.
+fn is_for_program(job: &Job) -> bool {
+    matches!(job, Job::Crunch { output: None, .. })
 }
 
 /// Whether the first argument is a subcommand whose output may go unread without a fault.
