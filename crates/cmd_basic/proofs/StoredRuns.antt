@@ -2,8 +2,8 @@
 use Rattle.std.proofs.Common.{◌≡◌, ℕ, List, [], ◌++◌, length, take, Option, Some, None, Result, Ok, Err, inl, inr, refl, sym, ap, ◌∙◌, ◌-◌, nat_le, cond, false, codes, append_assoc}
 use Rattle.std.specs.List.{flat_map}
 use Rattle.cbm_text.specs.declared.faulty_text.FaultyLine.{FaultyLine}
-use Rattle.script_text.specs.Input.{IsUnreadable, Reading}
-use Rattle.script_text.specs.Output.{Account}
+use Rattle.host_storage.specs.Input.{IsUnreadable, Reading}
+use Rattle.host_storage.specs.Output.{Account}
 use Rattle.host_storage.specs.Files.{HostState}
 use Rattle.host_storage.specs.declared.host.HostFault.{HostFault}
 use Rattle.host_storage.specs.declared.host.HostFault.TheVariants as files

@@ -3,7 +3,7 @@ use Rattle.std.specs.Prelude.{ℕ, ◌-◌, List, [], ◌++◌, length, take, co
 use Rattle.std.specs.Option.{option_map_or}
 use Rattle.script_text.specs.Status.{status_line}
 use Rattle.script_text.specs.declared.status.Status.{Status}
-use Rattle.host_names.specs.Shown.{shown_name}
+use Rattle.host_storage.specs.Shown.{shown_name}
 
 -- the name of the input: that of its file, or `-` for the standard input
 abbrev pub input_name : Option (List ℕ) → List ℕ

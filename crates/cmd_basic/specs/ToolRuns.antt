@@ -1,8 +1,8 @@
 -- How a tool that is run as a job ends, and how that is reported.
 use Rattle.std.specs.Prelude.{◌≡◌, ℕ, List, [], Option, Some, None, Result, Ok, Err, ◌⊎◌}
 use Rattle.std.specs.Io.KnownBytes.{Keeps}
-use Rattle.script_text.specs.Input.{IsUnreadable, input_limit}
-use Rattle.script_text.specs.Output.{Account, Writes}
+use Rattle.host_storage.specs.Input.{IsUnreadable, input_limit}
+use Rattle.host_storage.specs.Output.{Account, Writes}
 use Rattle.script_text.specs.Status.{status_line}
 use Rattle.host_storage.specs.Files.{Files, HostState}
 use Rattle.host_storage.specs.declared.host.HostFault.{HostFault}
@@ -23,8 +23,8 @@ use Rattle.cmd_basic.specs.declared.tools.ToolFault.TheVariants as tool_faults
 use Rattle.program_console.specs.declared.program_fault.ProgramFault.TheVariants.{Read, Write, Memory}
 use Rattle.program_console.specs.Outside.{Outside}
 use Rattle.program_console.specs.Faults.{Reports}
-use Rattle.program_batch.specs.Reasons.{IsWriteReason, with_known_reason}
-use Rattle.program_batch.specs.declared.reason.Reason.{Reason}
+use Rattle.program_console.specs.Reasons.{IsWriteReason, with_known_reason}
+use Rattle.program_console.specs.declared.reason.Reason.{Reason}
 
 -- the tool's fault for a host file that cannot be fetched
 abbrev pub fault_of_fetch : HostFault → ToolFault

@@ -6,8 +6,8 @@ use Rattle.cbm_text.specs.Listing.{Lists}
 use Rattle.cbm_text.specs.ListFault.{ListsNot}
 use Rattle.cbm_text.specs.declared.fault.ListFault.{ListFault}
 use Rattle.cbm_text.specs.declared.fault.ListFault.TheVariants as list_faults
-use Rattle.script_text.specs.Input.{Reading, IsUnreadable, input_limit}
-use Rattle.script_text.specs.Output.{AppendsPart}
+use Rattle.host_storage.specs.Input.{Reading, IsUnreadable, input_limit}
+use Rattle.host_storage.specs.Output.{AppendsPart}
 use Rattle.host_storage.specs.Files.{HostState}
 use Rattle.host_storage.specs.declared.host.HostFault.{HostFault}
 use Rattle.host_storage.specs.declared.host.HostFault.TheVariants as files

@@ -3,7 +3,7 @@ ghost use Rattle.std.specs.Prelude.{◌≡◌, ◌-◌, ◌++◌, OnOk, [], code
 ghost use Rattle.std.specs.Option.{option_map_or};
 ghost use Rattle.cmd_basic.specs.RefusalLine.{refusal_place, refusal_line, status_text};
 
-use host_names::push_shown;
+use host_storage::push_shown;
 use out_messages::push_number;
 use script_text::status::Status;
 use std::alloc::AllocError;

@@ -3,7 +3,7 @@ ghost use Rattle.std.specs.Prelude.{◌≡◌, ◌-◌, ◌≤◌, ◌<◌, ◌^
 ghost use Rattle.std.specs.List.{flat_map};
 ghost use Rattle.cbm_text.specs.Causes.{cause_text};
 ghost use Rattle.cbm_text.specs.FaultyLines.{AreFaultyIn};
-ghost use Rattle.script_text.specs.Input.{input_limit};
+ghost use Rattle.host_storage.specs.Input.{input_limit};
 ghost use Rattle.cmd_basic.specs.RefusedText.{HasSmallNumber, faulty_line, indented, more_lines, refused_text};
 
 use crate::refusal_line::push_refusal_line;

@@ -1,11 +1,11 @@
 //! A tool whose result goes to a host file: it is stored whole or not at all, and a refused input
 //! is reported in the form of compilers.
 ghost use Rattle.std.specs.Prelude.{◌≡◌, ◌≤◌, ◌⊎◌, IfErr, IfOk, Ok, Err, Option, None, length, option_copied};
-ghost use Rattle.script_text.specs.Input.{IsUnread, IsUnreadable, reading_of, input_limit};
-ghost use Rattle.program_batch.specs.Reasons.{IsWriteReason, with_known_reason};
+ghost use Rattle.host_storage.specs.Input.{IsUnread, IsUnreadable, reading_of, input_limit};
+ghost use Rattle.program_console.specs.Reasons.{IsWriteReason, with_known_reason};
 ghost use Rattle.program_console.specs.Console.{IsFresh, SameStreams};
 ghost use Rattle.program_console.specs.Outside.{account_at, outside_at};
-ghost use Rattle.program_batch.specs.declared.reason.Reason.{Reason};
+ghost use Rattle.program_console.specs.declared.reason.Reason.{Reason};
 ghost use Rattle.out_messages.specs.FaultLines.{unwritten_line};
 ghost use Rattle.cmd_basic.specs.ToolRuns.{EndedToolTo, ReportsProgram, ReportsFaultyLines, ReportsStored, ReportsUnwritten, TakesInput};
 ghost use Rattle.cmd_basic.specs.Tools.{HasStored, fault_of_store, start_of};
@@ -14,14 +14,13 @@ use crate::refusal_line::push_refusal_line;
 use crate::refused_text::refused_text;
 use crate::tools::{Tool, ToolFault, whole_input};
 use cbm_text::ListFault;
-use host_storage::{Host, HostFault};
+use host_storage::{Host, HostFault, INPUT_BYTES, InputStream, OutputStream};
 use out_messages::unwritten_line;
-use program_batch::{push_known_reason, reason_unwritten};
-use program_console::{ALL_ACCEPTED, Console, NOT_RUN, ProgramFault, SOME_REFUSED};
+use program_console::{
+    ALL_ACCEPTED, Console, NOT_RUN, ProgramFault, SOME_REFUSED, push_known_reason, reason_unwritten,
+};
 use script_commands::host_file::fetch;
 use script_commands::status_from::of_list_fault;
-use script_text::input::{INPUT_BYTES, InputStream};
-use script_text::output::OutputStream;
 use std::alloc::{AllocError, Global};
 use std::io::{Read, Write};
 

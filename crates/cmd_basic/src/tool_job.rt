@@ -1,7 +1,7 @@
 //! A tool on the input or on a file, to the output, and its exit status.
 ghost use Rattle.std.specs.Prelude.{◌≡◌, ◌≤◌, IfErr, IsOk, None, OnOk, option_copied, true};
-ghost use Rattle.script_text.specs.Input.{reading_of};
-ghost use Rattle.script_text.specs.Output.{Writes};
+ghost use Rattle.host_storage.specs.Input.{reading_of};
+ghost use Rattle.host_storage.specs.Output.{Writes};
 ghost use Rattle.program_console.specs.Console.{IsDelivered, IsFresh, SameStreams};
 ghost use Rattle.program_console.specs.Outside.{account_at, outside_at};
 ghost use Rattle.script_text.specs.Status.{status_line};
@@ -10,12 +10,10 @@ ghost use Rattle.cmd_basic.specs.Tools.{ReadsWith, HasSmallLine, WritesWith};
 
 use crate::stored_tool::StoredTool;
 use crate::tools::{Tool, ToolFault};
-use host_storage::{Host, HostFault};
+use host_storage::{Host, HostFault, INPUT_BYTES, OutputStream};
 use program_console::{ALL_ACCEPTED, Console, ProgramFault, SOME_REFUSED};
 use script_commands::host_file::fetch;
 use script_commands::status_from::{of_basic_fault, of_list_fault};
-use script_text::input::INPUT_BYTES;
-use script_text::output::OutputStream;
 use script_text::status::Status;
 use std::alloc::Global;
 use std::io::{Read, Write};

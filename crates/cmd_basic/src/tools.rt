@@ -2,13 +2,12 @@
 //! to all of an output.
 
 ghost use Rattle.std.specs.Prelude.{◌≡◌, ◌≤◌, false, length, IfOk, IfErr, OnOk};
-ghost use Rattle.script_text.specs.Input.{IsUnread, IsUnreadable, reading_of, input_limit};
+ghost use Rattle.host_storage.specs.Input.{IsUnread, IsUnreadable, reading_of, input_limit};
 ghost use Rattle.cmd_basic.specs.declared.tools.ToolFault.TheVariants.{Read};
 ghost use Rattle.cmd_basic.specs.Tools.{ToolMakes, Refuses, HasRead, ReadsNot, HasWritten, ReadsWith, RanTool, HasSmallLine, WritesWith, start_of};
 
 use cbm_text::{BasicFault, ListFault, crunch, list};
-use script_text::input::InputStream;
-use script_text::output::OutputStream;
+use host_storage::{InputStream, OutputStream};
 use script_text::script::read_input;
 use std::alloc::{AllocError, Global};
 use std::io::{Read, Write};

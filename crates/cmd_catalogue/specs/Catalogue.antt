@@ -2,7 +2,7 @@
 use Rattle.std.specs.Prelude.{ℕ, List, Option, codes, option_map, string_bytes}
 use Rattle.d64_inventory.specs.ListingAmiss.{is_listing_amiss}
 use Rattle.out_messages.specs.FaultLines.{no_dump_text}
-use Rattle.program_batch.specs.Answers.{Rule}
+use Rattle.program_surveys.specs.Answers.{Rule}
 use Rattle.program_surveys.specs.Printings.{Printing, survey_rule}
 use Rattle.program_arguments.specs.declared.jobs.Page.{Page}
 use Rattle.cmd_catalogue.specs.Head.{page_head}

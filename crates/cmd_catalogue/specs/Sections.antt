@@ -12,7 +12,7 @@ use Rattle.d64_survey.specs.declared.read_error.ReadError.{ReadError}
 use Rattle.petscii.specs.Spelling.{spelling}
 use Rattle.out_messages.specs.StateText.{contents_text, state_text}
 use Rattle.out_messages.specs.FaultText.{fault_text, read_error_text}
-use Rattle.host_names.specs.Shown.{shown_name}
+use Rattle.host_storage.specs.Shown.{shown_name}
 use Rattle.out_markup.specs.Markup.{element, held_text}
 use Rattle.out_picture.specs.PagePicture.{page_svg_of}
 use Rattle.cmd_catalogue.specs.Elements.{text_line}

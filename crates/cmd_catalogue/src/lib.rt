@@ -7,10 +7,11 @@ mod element;
 mod files;
 mod head;
 mod host_files;
+mod job;
 mod script;
 mod section;
 mod style;
 mod title;
 mod url;
 
-pub use catalogue_printer::CataloguePrinter;
+pub use job::make_catalogue;

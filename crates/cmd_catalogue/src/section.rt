@@ -10,7 +10,7 @@ use crate::host_files::HostFiles;
 use d64_files::{disk_id, disk_name};
 use d64_image::Image;
 use d64_survey::{Fault, Inspection, ReadError, Survey};
-use host_names::push_shown;
+use host_storage::push_shown;
 use out_markup::push_held;
 use out_messages::{push_contents, push_fault, push_number, push_read_error, push_state};
 use out_picture::page_svg;

@@ -11,7 +11,7 @@ use Rattle.cmd_check.specs.Checks.{check_object, check_row}
 use Rattle.cmd_check.specs.CheckRows.{header_row, unanswered_row}
 use Rattle.out_json_csv.specs.Unanswered.{unread_object, no_dump_object, no_dump_error}
 use Rattle.cmd_check.specs.CheckText.{check_text}
-use Rattle.program_batch.specs.Answers.{Rule}
+use Rattle.program_surveys.specs.Answers.{Rule}
 use Rattle.program_surveys.specs.Printings.{Printing, survey_rule}
 
 -- the digest of bytes, if it is asked for

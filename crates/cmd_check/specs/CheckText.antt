@@ -13,7 +13,7 @@ use Rattle.d64_survey.specs.declared.doubt.Doubt.{Doubt}
 use Rattle.d64_survey.specs.declared.doubt.Doubt.TheVariants.{Unowned}
 use Rattle.d64_survey.specs.declared.fault.Fault.{Fault}
 use Rattle.d64_survey.specs.declared.read_error.ReadError.{ReadError}
-use Rattle.host_names.specs.Shown.{shown_name}
+use Rattle.host_storage.specs.Shown.{shown_name}
 use Rattle.out_messages.specs.Words.{line_below}
 use Rattle.out_messages.specs.DoubtText.{unowned_text}
 use Rattle.out_messages.specs.FaultText.{fault_text, read_error_text}

@@ -13,12 +13,27 @@ use program_surveys::Printer;
 use sha2::{Digest, Sha256};
 use std::alloc::{AllocError, Global};
 
+/// The buffers for lines of JSON and CSV, which are made for the first one: text needs none.
+#[derive(Drop)]
+struct Buffers {
+    alloc: Global,
+    scratch: Option<Scratch>,
+}
+
+impl Buffers {
+    /// Returns the buffers.
+    fn get(&mut self) -> &mut Scratch {
+        let alloc = self.alloc;
+        self.scratch.get_or_insert_with(|| Scratch::new(alloc))
+    }
+}
+
 /// The printer of `check`, with the buffers that it uses for one file after another.
 #[derive(Drop)]
 pub struct CheckPrinter {
     form: Format,
     has_digest: bool,
-    scratch: Scratch,
+    buffers: Buffers,
 }
 
 impl CheckPrinter {
@@ -30,7 +45,10 @@ impl CheckPrinter {
         CheckPrinter {
             form,
             has_digest,
-            scratch: Scratch::new(alloc),
+            buffers: Buffers {
+                alloc,
+                scratch: None,
+            },
         }
     }
 }
@@ -41,7 +59,7 @@ impl Printer for CheckPrinter {
     fn print_heading(&mut self, out: Vec<u8>) -> Result<Vec<u8>, AllocError> {
         match self.form {
             Format::Text | Format::Json => Ok(out),
-            Format::Csv => csv_header(&mut self.scratch, self.has_digest, out),
+            Format::Csv => csv_header(self.buffers.get(), self.has_digest, out),
         }
     }
 
@@ -63,16 +81,16 @@ impl Printer for CheckPrinter {
                 check_text(name, all, &mut text)?;
                 Ok(text)
             }
-            Format::Json => check_json(&mut self.scratch, name, all, digest.as_ref(), out),
-            Format::Csv => check_csv(&mut self.scratch, name, all, digest.as_ref(), out),
+            Format::Json => check_json(self.buffers.get(), name, all, digest.as_ref(), out),
+            Format::Csv => check_csv(self.buffers.get(), name, all, digest.as_ref(), out),
         }
     }
 
     fn print_unread(&mut self, name: &[u8], out: Vec<u8>) -> Result<Vec<u8>, AllocError> {
         match self.form {
             Format::Text => Ok(out),
-            Format::Json => unread_json(&mut self.scratch, name, out),
-            Format::Csv => unread_csv(&mut self.scratch, name, self.has_digest, out),
+            Format::Json => unread_json(self.buffers.get(), name, out),
+            Format::Csv => unread_csv(self.buffers.get(), name, self.has_digest, out),
         }
     }
 
@@ -84,8 +102,8 @@ impl Printer for CheckPrinter {
     ) -> Result<Vec<u8>, AllocError> {
         match self.form {
             Format::Text => Ok(out),
-            Format::Json => no_dump_json(&mut self.scratch, name, bytes, out),
-            Format::Csv => no_dump_csv(&mut self.scratch, name, self.has_digest, bytes, out),
+            Format::Json => no_dump_json(self.buffers.get(), name, bytes, out),
+            Format::Csv => no_dump_csv(self.buffers.get(), name, self.has_digest, bytes, out),
         }
     }
 

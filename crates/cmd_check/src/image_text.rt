@@ -7,7 +7,7 @@ ghost use Rattle.cmd_check.specs.CheckText.{image_line, fault_line, most_lines, 
 
 use crate::file_lines::{LINE_END, LINE_START, push_file_lines};
 use d64_survey::{Doubt, Fault, Inspection, ReadError, Survey};
-use host_names::push_shown;
+use host_storage::push_shown;
 use out_messages::{
     push_contents, push_fault, push_label, push_number, push_read_error, push_state,
     push_unowned_text,

@@ -8,8 +8,9 @@ mod doubt;
 mod file_lines;
 mod finding;
 mod image_text;
+mod job;
 mod json_line;
 mod owner;
 mod row;
 
-pub use check_printer::CheckPrinter;
+pub use job::check_disks;

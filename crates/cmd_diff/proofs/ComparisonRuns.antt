@@ -1,8 +1,8 @@
 -- What a comparison leaves, by what its steps leave.
 use Rattle.std.proofs.Common.{◌≡◌, ◌∙◌, ℕ, List, Result, Err, inr, refl, sym, ap, subst}
 use Rattle.host_storage.specs.Files.{HostState}
-use Rattle.program_batch.specs.Answers.{Answer}
-use Rattle.program_batch.specs.Runs.{IsCut, IsReported, Reported, run_state}
+use Rattle.program_surveys.specs.Answers.{Answer}
+use Rattle.program_surveys.specs.Runs.{IsCut, IsReported, Reported, run_state}
 use Rattle.cmd_diff.specs.Comparisons.{AreCompared, Compares, PairRule}
 use Rattle.program_console.specs.declared.stream_fault.StreamFault.{StreamFault}
 use Rattle.program_console.specs.declared.stream_fault.StreamFault.TheVariants.{Memory, Write}

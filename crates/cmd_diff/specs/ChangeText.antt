@@ -10,7 +10,7 @@ use Rattle.d64_map.specs.Map.{blocks_free}
 use Rattle.d64_survey.specs.Dump.{DumpView}
 use Rattle.d64_files.specs.DiskHeader.{disk_dos}
 use Rattle.out_messages.specs.StateText.{label_text}
-use Rattle.host_names.specs.Shown.{shown_name}
+use Rattle.host_storage.specs.Shown.{shown_name}
 use Rattle.out_messages.specs.Words.{counted_text, block_text}
 use Rattle.out_files.specs.FileTable.{slot_line}
 use Rattle.cmd_diff.specs.Changes.{DumpChange, DiskChanged, Added, Removed, FileChanged, BlocksChanged, CodesChanged}

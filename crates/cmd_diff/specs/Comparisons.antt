@@ -1,8 +1,8 @@
 -- How a comparison of two files ends.
 use Rattle.std.specs.Prelude.{◌≡◌, ℕ, List, Result, Ok, Err, ◌⊎◌}
 use Rattle.host_storage.specs.Files.{HostState}
-use Rattle.program_batch.specs.Answers.{Answer}
-use Rattle.program_batch.specs.Runs.{IsCut, IsReported, RunState}
+use Rattle.program_surveys.specs.Answers.{Answer}
+use Rattle.program_surveys.specs.Runs.{IsCut, IsReported, RunState}
 use Rattle.program_surveys.specs.JobEnds.{EndedRun}
 use Rattle.program_console.specs.Outside.{Outside}
 use Rattle.program_console.specs.declared.stream_fault.StreamFault.{StreamFault}

@@ -7,8 +7,8 @@ use Rattle.d64_image.specs.Image.{bytes_of}
 use Rattle.d64_survey.specs.Dump.{DumpView, code_bytes}
 use Rattle.out_json_csv.specs.Values.{line_of}
 use Rattle.d64_g64.specs.DumpOf.{dump_of}
-use Rattle.program_batch.specs.Answers.{Answer}
-use Rattle.program_batch.specs.declared.report.Verdict.TheVariants.{Clean, Amiss, Failed}
+use Rattle.program_surveys.specs.Answers.{Answer}
+use Rattle.program_surveys.specs.declared.report.Verdict.TheVariants.{Clean, Amiss, Failed}
 use Rattle.program_arguments.specs.declared.jobs.DiffForm.{DiffForm}
 use Rattle.program_arguments.specs.declared.jobs.DiffForm.TheVariants.{Text, Json}
 use Rattle.cmd_diff.specs.Changes.{DumpChange, changes}

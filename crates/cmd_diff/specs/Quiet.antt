@@ -2,7 +2,7 @@
 use Rattle.std.specs.Prelude.{◌≡◌, ℕ, Bool, true, false, if◌then◌else◌, List, [], Option, Some, None, Ok, Err, refl}
 use Rattle.d64_image.specs.Disk.{Bytes}
 use Rattle.d64_survey.specs.Dump.{DumpView}
-use Rattle.program_batch.specs.declared.report.Verdict.TheVariants.{Clean}
+use Rattle.program_surveys.specs.declared.report.Verdict.TheVariants.{Clean}
 use Rattle.d64_g64.specs.DumpOf.{dump_of}
 use Rattle.program_arguments.specs.declared.jobs.DiffForm.{DiffForm}
 use Rattle.cmd_diff.specs.Differences.{are_same, silence, amiss_with, difference_by, difference_rule}

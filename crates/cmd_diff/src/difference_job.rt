@@ -7,9 +7,8 @@ ghost use Rattle.program_surveys.specs.FileContents.{contents_by};
 use crate::difference_report::DifferenceReport;
 use host_storage::Host;
 use program_arguments::DiffForm;
-use program_batch::{Batch, Reason};
-use program_console::{Outputs, StreamFault};
-use program_surveys::{WholeTask, read_contents};
+use program_console::{Outputs, Reason, StreamFault};
+use program_surveys::{Batch, WholeTask, read_contents};
 use std::alloc::Global;
 use std::io::Write;
 

@@ -1,6 +1,6 @@
 //! The report of `diff`: what is printed of two files, and the verdict.
 ghost use Rattle.std.specs.Prelude.{◌≡◌, ◌++◌, [], Ok, IfOk, OnOk};
-ghost use Rattle.program_batch.specs.Answers.{Answer};
+ghost use Rattle.program_surveys.specs.Answers.{Answer};
 ghost use Rattle.cmd_diff.specs.Differences.{printed_difference, unanswered_pair, difference_rule, difference_by};
 ghost use Rattle.program_surveys.specs.FileContents.{contents_by};
 
@@ -11,8 +11,8 @@ use crate::unanswered::push_fault_lines;
 use d64_survey::Inspection;
 use out_json_csv::Scratch;
 use program_arguments::DiffForm;
-use program_batch::{Reason, ReportBuffer, Verdict};
-use program_surveys::{DumpBuffer, print_fault};
+use program_console::Reason;
+use program_surveys::{DumpBuffer, ReportBuffer, Verdict, print_fault};
 use std::alloc::{AllocError, Global};
 use std::mem;
 

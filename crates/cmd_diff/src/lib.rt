@@ -7,6 +7,7 @@ mod difference_job;
 mod difference_report;
 mod drafts;
 mod dump_buffer;
+mod job;
 mod laws;
 mod lines;
 mod objects;
@@ -15,6 +16,6 @@ mod slots;
 mod unanswered;
 
 pub use blocks::{list_changed_blocks, list_changed_codes};
-pub use difference_job::DifferenceJob;
 pub use difference_report::DifferenceReport;
+pub use job::compare_files;
 pub use laws::{equal_dumps_are_silent, images_are_listed};

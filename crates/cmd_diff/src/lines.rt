@@ -9,7 +9,7 @@ use d64_image::{BlockNo, Image};
 use d64_inventory::FileRow;
 use d64_map::blocks_free;
 use d64_survey::Inspection;
-use host_names::push_shown;
+use host_storage::push_shown;
 use out_files::push_file_line;
 use out_messages::{push_block, push_count, push_label, push_number};
 use petscii::push_spelling;

@@ -2,7 +2,7 @@
 ghost use Rattle.std.specs.Prelude.{◌≡◌, ◌++◌, [], OnOk};
 ghost use Rattle.program_surveys.specs.FileContents.{contents_by, contents_fault_line};
 
-use program_batch::Reason;
+use program_console::Reason;
 use program_surveys::push_fault_line;
 use std::alloc::{AllocError, Global};
 

@@ -1,7 +1,7 @@
 -- The files of an image, step by step.
 use Rattle.std.proofs.Common.{◌≡◌, ℕ, Bool, true, false, not, cond, List, [], ◌∷◌, ◌++◌, Option, Some, None, Result, Ok, Err, refl, sym, ap, ap₂, ◌∙◌, subst, append-nil}
-use Rattle.program_batch.specs.Reasons.{IsWriteReason}
-use Rattle.program_batch.specs.declared.reason.Reason.{Reason}
+use Rattle.program_console.specs.Reasons.{IsWriteReason}
+use Rattle.program_console.specs.declared.reason.Reason.{Reason}
 use Rattle.std.specs.Prelude.{is_some, OnOk}
 use Rattle.std.specs.Str.{is_utf8}
 use Rattle.host_storage.specs.Files.{HostState}

@@ -1,7 +1,7 @@
 -- The folder of an image, step by step.
 use Rattle.std.proofs.Common.{◌≡◌, ℕ, Bool, true, false, cond, List, Option, sym, ap, subst}
-use Rattle.program_batch.specs.Reasons.{IsWriteReason}
-use Rattle.program_batch.specs.declared.reason.Reason.{Reason}
+use Rattle.program_console.specs.Reasons.{IsWriteReason}
+use Rattle.program_console.specs.declared.reason.Reason.{Reason}
 use Rattle.host_storage.specs.Files.{HostState}
 use Rattle.d64_leftovers.specs.Rows.{wanted_rows}
 use Rattle.out_files.specs.Forms.{files_and}

@@ -4,8 +4,8 @@ use Rattle.std.specs.Prelude.{nat_lt, OnOk}
 use Rattle.std.specs.Str.{is_utf8}
 use Rattle.host_storage.specs.Files.{HostState}
 use Rattle.out_messages.specs.FaultLines.{unwritten_line}
-use Rattle.program_batch.specs.Reasons.{IsWriteReason, with_known_reason}
-use Rattle.program_batch.specs.declared.reason.Reason.{Reason}
+use Rattle.program_console.specs.Reasons.{IsWriteReason, with_known_reason}
+use Rattle.program_console.specs.declared.reason.Reason.{Reason}
 use Rattle.cmd_extract.specs.Setup.{TaskView, list_path}
 use Rattle.cmd_extract.specs.Progress.{Progress, waiting_limit, put_progress, unput_progress, dropped_progress}
 use Rattle.cmd_extract.specs.declared.list_state.ListState.{ListState}

@@ -1,6 +1,6 @@
 -- An image with a clean verdict has no line on the standard error.
-use Rattle.std.proofs.Common.{◌≡◌, ℕ, Bool, true, false, cond, List, [], ◌∷◌, ◌++◌, Option, Some, None, refl, sym, ap, ◌∙◌, subst, inl, inr, append-nil}
-use Rattle.std.specs.Prelude.{is_some, nat_lt, length}
+use Rattle.std.proofs.Common.{◌≡◌, ℕ, Bool, true, false, cond, List, [], ◌∷◌, ◌++◌, Option, Some, None, Result, Ok, Err, refl, sym, ap, ◌∙◌, subst, inl, inr, append-nil}
+use Rattle.std.specs.Prelude.{IfOk, is_some, nat_lt, length}
 use Rattle.std.specs.Str.{is_utf8}
 use Rattle.host_storage.specs.Files.{HostState}
 use Rattle.d64_survey.specs.Dump.{DumpView}
@@ -10,8 +10,8 @@ use Rattle.cmd_extract_contents.specs.Portions.{Portion}
 use Rattle.cmd_extract_contents.specs.Limits.{portion_within}
 use Rattle.d64_g64.specs.DumpOf.{dump_of}
 use Rattle.out_messages.specs.FaultLines.{too_much_line}
-use Rattle.program_batch.specs.Answers.{Answer}
-use Rattle.program_batch.specs.declared.report.Verdict.TheVariants.{Clean, Amiss, Failed}
+use Rattle.program_surveys.specs.Answers.{Answer, KeepsQuiet}
+use Rattle.program_surveys.specs.declared.report.Verdict.TheVariants.{Clean, Amiss, Failed}
 use Rattle.host_names.specs.ImagePlace.{folders_of}
 use Rattle.d64_inventory.specs.ListingAmiss.{is_listing_amiss}
 use Rattle.out_files.specs.Forms.{files_and}
@@ -21,9 +21,11 @@ use Rattle.cmd_extract.specs.Work.{Work, Done, Then, Why, Look, Rename, DoesWork
 use Rattle.cmd_extract.specs.Progress.{Progress, waiting_limit, progress_before_files, portion_of, row_name, reported_progress, spent_progress, named_progress, written_progress, unwritten_progress, failed_at, put_progress, unput_progress, dropped_progress}
 use Rattle.cmd_extract.specs.declared.list_state.ListState.{ListState}
 use Rattle.cmd_extract.specs.declared.list_state.ListState.TheVariants.{New, Begun, GivenUp}
-use Rattle.program_batch.specs.declared.reason.Reason.{Reason}
+use Rattle.program_console.specs.declared.reason.Reason.{Reason}
 use Rattle.cmd_extract.specs.Unpacking.{unread_answer, skipped_answer, present_answer, unfinished_answer, verdict_on, closed_progress, after_naming, name_work, after_putting, put_work, wait_work, list_work, after_writing, file_work, files_work, unmade_work, folder_work, folders_work, folder_after, present_work, task_work_with, task_of, dump_work, unpacking}
 use Rattle.cmd_extract.specs.UnpackLaws.{CleanIsQuiet}
+use Rattle.cmd_extract.specs.Effects.{unpacks}
+use Rattle.cmd_extract.specs.declared.unpacker.Unpacker.{Unpacker}
 
 -- whatever the host returns, a clean result has no complaint
 unfoldable IsQuietWork : Work → Type 0
@@ -187,3 +189,15 @@ unpacking_quiet setup name (Some bytes) skips = by_text (is_utf8 name)
 
 pub clean_is_quiet : CleanIsQuiet
 clean_is_quiet setup skips name bytes old answer new done clean = does_quietly (unpacking setup name bytes) old new answer (unpacking_quiet setup name bytes skips) done clean
+
+not_true : (test : Bool) → (test ≡ true → ⊥) → test ≡ false
+not_true true refuted = absurd (refuted refl)
+not_true false refuted = refl
+
+-- an extraction that skips nothing writes nothing to the standard error about a clean image, if
+-- there was memory to begin
+pub extraction_is_quiet : {E : Type 0} (setup : ExtractSetupView) (made : Result Unpacker E)
+    → IfOk made (λ unpacker. unpacker.setup ≡ setup) → (setup.skips ≡ true → ⊥) → IfOk made (λ unpacker. KeepsQuiet (unpacks unpacker.setup))
+extraction_is_quiet setup (Ok unpacker) made unskipped =
+    subst (λ (s : ExtractSetupView). KeepsQuiet (unpacks s)) (sym made) (clean_is_quiet setup (not_true setup.skips unskipped))
+extraction_is_quiet setup (Err error) made unskipped = tt

@@ -1,8 +1,8 @@
 -- The result of an image that is refused with the right complaint.
 use Rattle.std.proofs.Common.{◌≡◌, ℕ, List, Result, Ok, Err, ap₂, ◌∙◌}
 use Rattle.std.specs.Prelude.{IfOk}
-use Rattle.program_batch.specs.Answers.{Answer}
-use Rattle.program_batch.specs.declared.report.Verdict.{Verdict}
+use Rattle.program_surveys.specs.Answers.{Answer}
+use Rattle.program_surveys.specs.declared.report.Verdict.{Verdict}
 use Rattle.cmd_extract.specs.Setup.{ExtractSetupView}
 use Rattle.cmd_extract.specs.Unpacking.{refused_answer}
 

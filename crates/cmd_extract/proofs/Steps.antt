@@ -2,11 +2,11 @@
 use Rattle.std.proofs.Common.{◌≡◌, Bool, true, false, Option, Some, None, refl, sym, ap, subst, inl, inr, Result, Ok, Err}
 use Rattle.std.specs.Prelude.{OnOk, IfOk, IsErr, MatchResult}
 use Rattle.host_storage.specs.Files.{HostState}
-use Rattle.program_batch.specs.Answers.{Answer}
-use Rattle.program_batch.specs.Reasons.{IsWriteReason}
-use Rattle.program_batch.specs.declared.reason.Reason.{Reason}
-use Rattle.program_batch.specs.declared.report.Verdict.{Verdict}
-use Rattle.program_batch.specs.declared.report.ReportBuffer.{ReportBuffer}
+use Rattle.program_surveys.specs.Answers.{Answer}
+use Rattle.program_console.specs.Reasons.{IsWriteReason}
+use Rattle.program_console.specs.declared.reason.Reason.{Reason}
+use Rattle.program_surveys.specs.declared.report.Verdict.{Verdict}
+use Rattle.program_surveys.specs.declared.report.ReportBuffer.{ReportBuffer}
 use Rattle.cmd_extract.specs.Work.{Work, Done, Then, Why, HostCall, CallReturns, DoesWork, LeadsTo, Comes, EndsWork, answer_in}
 use Rattle.cmd_extract.specs.Progress.{Progress}
 

@@ -1,6 +1,6 @@
 -- What may be done as images are unpacked, one after another.
 use Rattle.std.specs.Prelude.{Some, None}
-use Rattle.program_batch.specs.Answers.{Effects}
+use Rattle.program_surveys.specs.Answers.{Effects}
 use Rattle.cmd_extract.specs.Setup.{ExtractSetupView}
 use Rattle.cmd_extract.specs.Work.{DoesWork}
 use Rattle.cmd_extract.specs.Unpacking.{unpacking}

@@ -13,8 +13,8 @@ use Rattle.cmd_extract_contents.specs.Limits.{limit, left_after}
 use Rattle.cmd_extract_contents.specs.declared.extent.Extent.{Extent}
 use Rattle.host_names.specs.TakenNames.{next_name}
 use Rattle.host_names.specs.declared.ending.Ending.TheVariants as endings
-use Rattle.program_batch.specs.Reasons.{with_known_reason}
-use Rattle.program_batch.specs.declared.reason.Reason.{Reason}
+use Rattle.program_console.specs.Reasons.{with_known_reason}
+use Rattle.program_console.specs.declared.reason.Reason.{Reason}
 use Rattle.out_messages.specs.FaultLines.{unwritten_line}
 use Rattle.out_files.specs.Forms.{before_rows}
 use Rattle.cmd_extract.specs.Extracts.{printed_file}

@@ -1,6 +1,7 @@
 -- The options of an extraction, and an image that is unpacked.
-use Rattle.std.specs.Prelude.{ℕ, Bool, List, codes}
+use Rattle.std.specs.Prelude.{ℕ, Bool, List, codes, string_bytes}
 use Rattle.d64_survey.specs.Dump.{DumpView}
+use Rattle.program_arguments.specs.declared.jobs.Extraction.{Extraction as RequestedExtraction}
 use Rattle.out_files.specs.declared.form.Form.{Form}
 use Rattle.host_names.specs.Paths.{path_in}
 
@@ -28,3 +29,7 @@ list_in folder = path_in folder (codes "files.jsonl")
 -- the path of the list while the image is being unpacked
 abbrev pub list_path : TaskView → List ℕ
 list_path task = list_in task.partial
+
+-- the options of an extraction that the arguments give, in a form of the output
+abbrev pub setup_of : RequestedExtraction → Form → ExtractSetupView
+setup_of requested form = record { into = string_bytes requested.into; with_parts = requested.part; skips = requested.skip_existing; form = form }

@@ -13,11 +13,11 @@ use Rattle.out_messages.specs.FaultLines.{unread_line, wrong_length_line, unwrit
 use Rattle.out_files.specs.Forms.{after_rows}
 use Rattle.out_files.specs.Forms.{files_and}
 use Rattle.cmd_extract.specs.Extracts.{printed_error, printed_length}
-use Rattle.program_batch.specs.Answers.{Answer}
-use Rattle.program_batch.specs.Reasons.{with_known_reason}
-use Rattle.program_batch.specs.declared.reason.Reason.{Reason}
-use Rattle.program_batch.specs.declared.report.Verdict.{Verdict}
-use Rattle.program_batch.specs.declared.report.Verdict.TheVariants.{Clean, Amiss, Failed}
+use Rattle.program_surveys.specs.Answers.{Answer}
+use Rattle.program_console.specs.Reasons.{with_known_reason}
+use Rattle.program_console.specs.declared.reason.Reason.{Reason}
+use Rattle.program_surveys.specs.declared.report.Verdict.{Verdict}
+use Rattle.program_surveys.specs.declared.report.Verdict.TheVariants.{Clean, Amiss, Failed}
 use Rattle.host_names.specs.ImagePlace.{folders_of}
 use Rattle.cmd_extract.specs.Setup.{ExtractSetupView, TaskView, list_in, list_path}
 use Rattle.host_names.specs.Paths.{path_inside, with_slash, done_path, partial_path, path_in}

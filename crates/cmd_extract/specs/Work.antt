@@ -6,11 +6,11 @@ use Rattle.host_storage.specs.Files.{Files, HostState}
 use Rattle.host_storage.specs.Folders.{folder_name, with_folder, with_stored_file, with_moved, Looks, Makes, Extends, CountsMaking}
 use Rattle.host_storage.specs.declared.host.FolderFault.{FolderFault}
 use Rattle.host_storage.specs.declared.host.FolderFault.TheVariants.{Exists, Device}
-use Rattle.program_batch.specs.Answers.{Answer}
-use Rattle.program_batch.specs.Reasons.{IsWriteReason}
-use Rattle.program_batch.specs.declared.reason.Reason.{Reason}
-use Rattle.program_batch.specs.declared.report.Verdict.{Verdict}
-use Rattle.program_batch.specs.declared.report.ReportBuffer.{ReportBuffer}
+use Rattle.program_surveys.specs.Answers.{Answer}
+use Rattle.program_console.specs.Reasons.{IsWriteReason}
+use Rattle.program_console.specs.declared.reason.Reason.{Reason}
+use Rattle.program_surveys.specs.declared.report.Verdict.{Verdict}
+use Rattle.program_surveys.specs.declared.report.ReportBuffer.{ReportBuffer}
 
 -- a call of the host, which returns true or false
 pub data HostCall : Type 0 where

@@ -4,7 +4,7 @@ ghost use Rattle.out_messages.specs.FaultLines.{unwritten_line};
 ghost use Rattle.d64_inventory.specs.ListingAmiss.{is_listing_amiss};
 ghost use Rattle.cmd_extract.specs.Work.{answer_in};
 ghost use Rattle.cmd_extract.specs.FilesNow.{progress_of_files};
-ghost use Rattle.program_batch.specs.Reasons.{with_known_reason};
+ghost use Rattle.program_console.specs.Reasons.{with_known_reason};
 ghost use Rattle.cmd_extract.specs.Unpacking.{refused_answer, unread_answer, wrong_length_answer, present_answer, skipped_answer, unmade_answer, unnamed_answer, unfinished_answer, finished_answer};
 
 use crate::extract_printing::{print_error, print_length};
@@ -14,7 +14,8 @@ use cmd_extract_contents::ContentExtraction;
 use d64_inventory::is_amiss;
 use out_json_csv::{IS_THERE, Scratch, UNREAD, UNWRITTEN};
 use out_messages::{present_line, skipped_line, unread_line, unwritten_line, wrong_length_line};
-use program_batch::{Reason, ReportBuffer, Verdict, push_known_reason};
+use program_console::{Reason, push_known_reason};
+use program_surveys::{ReportBuffer, Verdict};
 use std::alloc::AllocError;
 use std::mem;
 

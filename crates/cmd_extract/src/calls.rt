@@ -1,10 +1,10 @@
 //! The calls that are made of the host.
 ghost use Rattle.std.specs.Prelude.{◌≡◌};
-ghost use Rattle.program_batch.specs.Reasons.{IsWriteReason};
+ghost use Rattle.program_console.specs.Reasons.{IsWriteReason};
 ghost use Rattle.cmd_extract.specs.Work.{CallReturns, Look, Folder, NewFolder, NewFile, MoreOfFile, Rename};
 
 use host_storage::{FolderFault, Host};
-use program_batch::{Reason, reason_unwritten};
+use program_console::{Reason, reason_unwritten};
 
 /// Whether a path exists.
 pub(crate) fn is_there<H: Host>(host: &H, path: &str) -> bool

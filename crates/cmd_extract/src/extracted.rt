@@ -6,7 +6,7 @@ ghost use Rattle.cmd_extract.specs.Extracted.{path_member, path_field, path_text
 
 use d64_leftovers::ListedRow;
 use d64_survey::Survey;
-use host_names::push_shown;
+use host_storage::push_shown;
 use json::Writer;
 use out_files::{
     begin_header, begin_name_alone, begin_row, push_leftover_fields, push_leftovers, push_row_text,

@@ -28,7 +28,7 @@ use itoa::Buffer;
 use out_files::print_after;
 use out_messages::too_much_line;
 use petscii::push_spelling;
-use program_batch::Reason;
+use program_console::Reason;
 use std::alloc::{AllocError, Global};
 
 /// The name of the list of an image's files, in its folder.

@@ -8,6 +8,7 @@ mod extract_printing;
 mod extracted;
 mod files;
 mod folders;
+mod job;
 mod list_state;
 mod reporting;
 mod setup;
@@ -15,5 +16,6 @@ mod task;
 pub mod unpack_laws;
 mod unpacker;
 
+pub use job::extract_files;
 pub use setup::ExtractSetup;
 pub use unpacker::Unpacker;

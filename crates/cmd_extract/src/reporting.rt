@@ -4,7 +4,7 @@ ghost use Rattle.out_files.specs.Forms.{before_rows};
 ghost use Rattle.cmd_extract.specs.Extracts.{printed_file};
 ghost use Rattle.out_files.specs.Forms.{as_json};
 ghost use Rattle.out_messages.specs.FaultLines.{unwritten_line};
-ghost use Rattle.program_batch.specs.Reasons.{with_known_reason};
+ghost use Rattle.program_console.specs.Reasons.{with_known_reason};
 ghost use Rattle.cmd_extract.specs.declared.list_state.ListState.TheVariants.{New as not_there};
 
 use crate::answering::add_unwritten;
@@ -14,7 +14,7 @@ use crate::setup::Task;
 use d64_leftovers::ListedRow;
 use out_files::print_before;
 use out_json_csv::Scratch;
-use program_batch::Reason;
+use program_console::Reason;
 use std::alloc::{AllocError, Global};
 use std::mem;
 

@@ -17,7 +17,7 @@ use crate::folders::have_folders;
 use crate::setup::Task;
 use host_names::path_inside;
 use host_storage::Host;
-use program_batch::{ReportBuffer, Verdict};
+use program_surveys::{ReportBuffer, Verdict};
 use std::alloc::{AllocError, Global};
 
 impl<'a, 'd> Task<'a, 'd> {

@@ -8,12 +8,11 @@ use crate::answering::{report_unread, report_wrong_length};
 use crate::extract_printing::print_extract_heading;
 use crate::files::Files;
 use crate::setup::{ExtractSetup, Task};
-use d64_g64::refill_from;
 use d64_image::Image;
 use d64_survey::{Dump, DumpFault, Fault, Inspection, ReadError};
 use host_names::{ImagePlace, done_path, partial_path};
 use host_storage::Host;
-use program_batch::{FileTask, ReportBuffer, Verdict};
+use program_surveys::{FileTask, ReportBuffer, Verdict, refill_from};
 use std::alloc::{AllocError, Global};
 use std::mem;
 

@@ -12,7 +12,7 @@ use Rattle.program_arguments.specs.declared.jobs.Format.TheVariants.{Text, Json,
 use Rattle.program_arguments.specs.declared.jobs.Leftovers.{Leftovers}
 use Rattle.out_json_csv.specs.Values.{line_of}
 use Rattle.out_json_csv.specs.Unanswered.{unread_object, no_dump_object, no_dump_error}
-use Rattle.program_batch.specs.Answers.{Rule}
+use Rattle.program_surveys.specs.Answers.{Rule}
 use Rattle.program_surveys.specs.Printings.{Printing, survey_rule}
 use Rattle.out_files.specs.CsvRow.{csv_row, file_header_row, unanswered_file_row}
 use Rattle.cmd_files.specs.Selections.{files_alone, deleted_alone, orphans_alone}

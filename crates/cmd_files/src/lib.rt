@@ -2,6 +2,7 @@
 #![tactic(auto)]
 
 mod files_printer;
+mod job;
 mod printing;
 
-pub use files_printer::FilesPrinter;
+pub use job::print_files;

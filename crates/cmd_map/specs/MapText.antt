@@ -4,7 +4,7 @@ use Rattle.std.specs.List.{flat_map, range_with_len}
 use Rattle.d64_image.specs.Image.{tracks_of}
 use Rattle.d64_map.specs.Track.{blocks_on}
 use Rattle.d64_survey.specs.Dump.{DumpView}
-use Rattle.host_names.specs.Shown.{shown_name}
+use Rattle.host_storage.specs.Shown.{shown_name}
 use Rattle.out_messages.specs.StateText.{label_text, state_text}
 use Rattle.out_picture.specs.States.{state_of_block, state_mark}
 

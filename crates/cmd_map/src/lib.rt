@@ -2,8 +2,9 @@
 //! wrong with them.
 #![tactic(auto)]
 
+mod job;
 mod map_printer;
 mod text;
 
-pub use map_printer::MapPrinter;
+pub use job::draw_map;
 pub use text::map_text;

@@ -5,7 +5,7 @@ ghost use Rattle.cmd_map.specs.MapText.{map_head_line, column_lines, padded_numb
 
 use d64_image::BlockNo;
 use d64_survey::Inspection;
-use host_names::push_shown;
+use host_storage::push_shown;
 use out_messages::{push_label, push_number, push_state};
 use out_picture::state_of;
 use std::alloc::AllocError;

@@ -5,9 +5,9 @@ use Rattle.d64_survey.specs.Dump.{dump_bytes}
 use Rattle.host_storage.specs.Files.{HostState}
 use Rattle.host_storage.specs.Folders.{with_stored_file, Makes, CountsMaking}
 use Rattle.host_storage.specs.declared.host.FolderFault.{FolderFault}
-use Rattle.program_batch.specs.Answers.{Answer}
-use Rattle.program_batch.specs.Reasons.{IsWriteReason}
-use Rattle.program_batch.specs.declared.reason.Reason.{Reason}
+use Rattle.program_surveys.specs.Answers.{Answer}
+use Rattle.program_console.specs.Reasons.{IsWriteReason}
+use Rattle.program_console.specs.declared.reason.Reason.{Reason}
 use Rattle.cmd_merge.specs.Setup.{MergeSetupView}
 use Rattle.cmd_merge.specs.Reports.{ReadingsView, is_answered, made, faulted_answer, merged_answer, unwritten_answer}
 

@@ -11,7 +11,7 @@ use Rattle.d64_merge.specs.Merged.{outcome_count, is_outcome}
 use Rattle.d64_merge.specs.declared.choice.Choice.{Choice}
 use Rattle.d64_merge.specs.declared.outcome.BlockOutcome.{BlockOutcome}
 use Rattle.d64_merge.specs.declared.outcome.BlockOutcome.TheVariants.{Same, Taken, Lost, Majority, First, Conflict}
-use Rattle.host_names.specs.Shown.{shown_name}
+use Rattle.host_storage.specs.Shown.{shown_name}
 use Rattle.out_messages.specs.FaultText.{drive_status_text}
 use Rattle.out_messages.specs.Words.{block_text, counted_text as count_text}
 use Rattle.cmd_merge.specs.Objects.{name_at_place, entry_text}

@@ -3,8 +3,8 @@ use Rattle.std.specs.Prelude.{◌≡◌, ◌⊎◌, ℕ, Bool, List, [], ◌∷�
 use Rattle.host_storage.specs.Files.{HostState}
 use Rattle.host_storage.specs.Folders.{Looks}
 use Rattle.host_storage.specs.declared.host.FolderFault.{FolderFault}
-use Rattle.program_batch.specs.Answers.{Answer}
-use Rattle.program_batch.specs.Runs.{IsCut, IsReported, RunState}
+use Rattle.program_surveys.specs.Answers.{Answer}
+use Rattle.program_surveys.specs.Runs.{IsCut, IsReported, RunState}
 use Rattle.program_arguments.specs.declared.jobs.DiffForm.{DiffForm}
 use Rattle.cmd_merge.specs.Setup.{MergeSetupView}
 use Rattle.cmd_merge.specs.Reports.{ReadingsView, no_readings, with_read_file, file_present_answer}

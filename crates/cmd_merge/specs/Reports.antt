@@ -10,11 +10,11 @@ use Rattle.d64_merge.specs.declared.choice.Choice.{Choice}
 use Rattle.d64_merge.specs.declared.outcome.BlockOutcome.TheVariants.{Lost, First, Conflict}
 use Rattle.out_json_csv.specs.Values.{line_of}
 use Rattle.out_messages.specs.FaultLines.{present_line, unwritten_line}
-use Rattle.program_batch.specs.Answers.{Answer}
-use Rattle.program_batch.specs.Reasons.{with_known_reason}
-use Rattle.program_batch.specs.declared.reason.Reason.{Reason}
-use Rattle.program_batch.specs.declared.report.Verdict.{Verdict}
-use Rattle.program_batch.specs.declared.report.Verdict.TheVariants.{Clean, Amiss, Failed}
+use Rattle.program_surveys.specs.Answers.{Answer}
+use Rattle.program_console.specs.Reasons.{with_known_reason}
+use Rattle.program_console.specs.declared.reason.Reason.{Reason}
+use Rattle.program_surveys.specs.declared.report.Verdict.{Verdict}
+use Rattle.program_surveys.specs.declared.report.Verdict.TheVariants.{Clean, Amiss, Failed}
 use Rattle.program_arguments.specs.declared.jobs.DiffForm.{DiffForm}
 use Rattle.program_arguments.specs.declared.jobs.DiffForm.TheVariants.{Text, Json}
 use Rattle.cmd_merge.specs.Setup.{MergeSetupView}

@@ -1,7 +1,7 @@
 //! How a merge ends after its files were read.
 ghost use Rattle.std.specs.Prelude.{◌≡◌, IfOk, IfErr, OnOk, false, true, option_map};
 ghost use Rattle.d64_survey.specs.Dump.{dump_bytes};
-ghost use Rattle.program_batch.specs.Answers.{answer_of};
+ghost use Rattle.program_surveys.specs.Answers.{answer_of};
 ghost use Rattle.cmd_merge.specs.Finishing.{Finishes, WritesMerged, MayHaveMade};
 ghost use Rattle.cmd_merge.specs.Reports.{made, choices_of, left_of, file_present_answer, faulted_answer, merged_answer, unwritten_answer};
 
@@ -12,7 +12,8 @@ use d64_merge::{keeps_codes, merged_bytes};
 use host_storage::Host;
 use out_json_csv::Scratch;
 use out_messages::{present_line, unwritten_line};
-use program_batch::{Reason, ReportBuffer, Verdict, push_known_reason, reason_unwritten};
+use program_console::{Reason, push_known_reason, reason_unwritten};
+use program_surveys::{ReportBuffer, Verdict};
 use sha2::{Digest, Sha256};
 use std::alloc::{AllocError, Global};
 use std::mem;

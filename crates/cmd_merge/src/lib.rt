@@ -3,6 +3,7 @@
 #![tactic(auto)]
 
 mod finishing;
+mod job;
 mod lines;
 mod merge_job;
 mod objects;
@@ -11,6 +12,6 @@ mod report;
 mod setup;
 
 pub use finishing::{finish, say_present};
-pub use merge_job::MergeJob;
+pub use job::merge_files;
 pub use readings::Readings;
 pub use setup::MergeSetup;

@@ -9,7 +9,7 @@ use d64_image::BlockNo;
 use d64_merge::{BlockOutcome, Choice, count_of, dump_at, is_outcome, known_code};
 use d64_survey::{Dump, drive_status, is_read_error};
 use hex::encode_to_slice;
-use host_names::push_shown;
+use host_storage::push_shown;
 use out_messages::{push_block, push_count, push_number, push_status};
 use std::alloc::AllocError;
 

@@ -1,16 +1,15 @@
 //! The run of `merge`: one file, made of the dumps of several files.
 ghost use Rattle.std.specs.Prelude.{◌≡◌, IfErr, IfOk, OnOk, [], map, string_bytes};
-ghost use Rattle.program_batch.specs.Answers.{answer_of};
-ghost use Rattle.program_batch.specs.declared.report.Verdict.TheVariants.{Clean};
+ghost use Rattle.program_surveys.specs.Answers.{answer_of};
+ghost use Rattle.program_surveys.specs.declared.report.Verdict.TheVariants.{Clean};
 ghost use Rattle.cmd_merge.specs.Merges.{AnswersMerge, CameSoFar, Merges, ReadsFiles};
 
 use crate::finishing::{finish, say_present};
 use crate::readings::Readings;
 use crate::setup::MergeSetup;
 use host_storage::Host;
-use program_batch::{Batch, ReportBuffer, Verdict};
 use program_console::{Outputs, StreamFault};
-use program_surveys::{WholeTask, read_contents};
+use program_surveys::{Batch, ReportBuffer, Verdict, WholeTask, read_contents};
 use std::alloc::Global;
 use std::io::Write;
 

@@ -4,13 +4,12 @@ ghost use Rattle.d64_g64.specs.DumpOf.{dump_of};
 ghost use Rattle.program_surveys.specs.FileContents.{contents_by};
 ghost use Rattle.cmd_merge.specs.Reports.{no_readings, with_dump, with_fault, with_file_bytes, with_read_file, is_answered};
 
-use d64_g64::refill_from;
 use d64_image::Image;
 use d64_survey::{Dump, DumpFault};
 use out_json_csv::Scratch;
 use program_arguments::DiffForm;
-use program_batch::Reason;
-use program_surveys::{print_fault, push_fault_line};
+use program_console::Reason;
+use program_surveys::{print_fault, push_fault_line, refill_from};
 use std::alloc::{AllocError, Global};
 use std::marker::Model;
 use std::mem;

@@ -13,7 +13,7 @@ use d64_merge::{BlockOutcome, Choice, choices, count_of, keeps_codes, list_left,
 use d64_survey::Dump;
 use out_json_csv::Scratch;
 use program_arguments::DiffForm;
-use program_batch::Verdict;
+use program_surveys::Verdict;
 use std::alloc::{AllocError, Global};
 
 /// What becomes of the blocks, and what is left on other tracks of G64 files.

@@ -3,8 +3,8 @@ use Rattle.std.proofs.Common.{◌≡◌, ℕ, List, [], ◌++◌, take, Option, 
 use Rattle.std.specs.Io.KnownBytes.{Keeps}
 use Rattle.std.proofs.KnownBytes.{Appends-kept}
 use Rattle.script_text.specs.RawLines.{lines_of, ended_lines}
-use Rattle.script_text.specs.Input.{Reading, input_limit}
-use Rattle.script_text.specs.Output.{Account}
+use Rattle.host_storage.specs.Input.{Reading, input_limit}
+use Rattle.host_storage.specs.Output.{Account}
 use Rattle.host_storage.specs.Files.{HostState}
 use Rattle.d64_undo.specs.History.{History}
 use Rattle.cmd_shell.specs.Beginnings.{Beginning, Blank, ImageFile, SessionFile, Source, Input, Given}
@@ -18,11 +18,11 @@ use Rattle.host_storage.specs.declared.host.HostFault.{HostFault}
 use Rattle.host_storage.specs.declared.host.HostFault.TheVariants as files
 use Rattle.d64_undo.specs.declared.resume_fault.ResumeFault.{ResumeFault}
 use Rattle.d64_undo.specs.declared.resume_fault.ResumeFault.TheVariants as resumes
-use Rattle.script_run.specs.Runner.{ScriptState, RanLines, StoppedAt, Ran}
-use Rattle.script_run.specs.Transcript.{RunOptions, RunProgress}
-use Rattle.script_run.specs.declared.runner.Outcome.{Outcome}
-use Rattle.script_run.specs.declared.runner.ShellFault.{ShellFault}
-use Rattle.script_run.specs.declared.runner.ShellFault.TheVariants.{Read, Write, Memory}
+use Rattle.cmd_shell.specs.Runner.{ScriptState, RanLines, StoppedAt, Ran}
+use Rattle.cmd_shell.specs.Transcript.{RunOptions, RunProgress}
+use Rattle.cmd_shell.specs.declared.runner.Outcome.{Outcome}
+use Rattle.cmd_shell.specs.declared.runner.ShellFault.{ShellFault}
+use Rattle.cmd_shell.specs.declared.runner.ShellFault.TheVariants.{Read, Write, Memory}
 
 -- lines have run also after the output was flushed
 RanLines-flushed : (options : RunOptions) (old new : ScriptState) (lines : List (List ℕ)) (after : RunProgress) (flushed : Option (List ℕ))
@@ -143,7 +143,7 @@ no_session_due (Ok bytes) reported source new (inr is) = due_by reported _ sourc
 
 -- no fault is due of a session that cannot be begun
 pub no_history_due : (reported : ProgramFault) (old last : HostState) (beginning : Beginning) (source : Source) (new : Outside) → HasNoHistory reported old beginning last → IsDue reported source new
-no_history_due reported old last (Blank tracks) source new none = due_by reported _ source new none.0 tt
+no_history_due reported old last (Blank disk) source new none = due_by reported _ source new none.0 tt
 no_history_due reported old last (ImageFile name) source new none = no_image_due none.0 reported source new none.2
 no_history_due reported old last (SessionFile name) source new none = no_session_due none.0 reported source new none.2
 

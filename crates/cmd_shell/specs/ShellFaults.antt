@@ -4,8 +4,8 @@ use Rattle.d64_image.specs.declared.image.ImageFault.TheVariants as images
 use Rattle.d64_undo.specs.ResumeFault.{resume_fault_number}
 use Rattle.d64_undo.specs.declared.resume_fault.ResumeFault.{ResumeFault}
 use Rattle.d64_undo.specs.declared.resume_fault.ResumeFault.TheVariants as resumes
-use Rattle.script_run.specs.declared.runner.ShellFault.{ShellFault}
-use Rattle.script_run.specs.declared.runner.ShellFault.TheVariants as runs
+use Rattle.cmd_shell.specs.declared.runner.ShellFault.{ShellFault}
+use Rattle.cmd_shell.specs.declared.runner.ShellFault.TheVariants as runs
 use Rattle.program_console.specs.declared.program_fault.ProgramFault.{ProgramFault}
 use Rattle.program_console.specs.declared.program_fault.ProgramFault.TheVariants.{WrongLength, NoSession, Read, Write, Memory}
 

@@ -1,38 +1,33 @@
 -- How the job of the shell ends.
-use Rattle.std.specs.Prelude.{◌≡◌, ℕ, ◌<◌, ◌==◌, true, false, if◌then◌else◌, List, [], length, replicate, Option, Some, Result, Ok, Err, ◌⊎◌, ⊤}
+use Rattle.std.specs.Prelude.{◌≡◌, ℕ, ◌<◌, ◌==◌, true, false, if◌then◌else◌, List, [], length, Option, Some, Result, Ok, Err, ◌⊎◌, ⊤}
 use Rattle.std.specs.Io.KnownBytes.{Keeps}
-use Rattle.script_text.specs.Input.{Reading, IsUnreadable, input_limit}
+use Rattle.host_storage.specs.Input.{Reading, IsUnreadable, input_limit}
 use Rattle.host_storage.specs.Files.{HostState}
 use Rattle.host_storage.specs.declared.host.HostFault.{HostFault}
-use Rattle.d64_image.specs.Image.{IsImage, bytes_of, count_of_tracks, is_image_length}
-use Rattle.d64_image.specs.declared.image.TheConstants.{BLOCK_BYTES}
+use Rattle.d64_image.specs.Image.{IsImage, bytes_of, is_image_length}
 use Rattle.script_commands.specs.Act.{FetchesFile}
 use Rattle.d64_undo.specs.History.{History, new_history}
 use Rattle.d64_undo.specs.ResumeFault.{first_resume_fault}
 use Rattle.d64_undo.specs.SessionFile.{IsSession, file_of}
 use Rattle.d64_undo.specs.declared.resume_fault.ResumeFault.{ResumeFault}
-use Rattle.script_run.specs.Runner.{Ran, ScriptState}
-use Rattle.script_run.specs.Transcript.{RunOptions}
-use Rattle.script_run.specs.declared.runner.Outcome.{Outcome}
-use Rattle.script_run.specs.declared.runner.ShellFault.{ShellFault}
+use Rattle.cmd_shell.specs.Runner.{Ran, ScriptState}
+use Rattle.cmd_shell.specs.Transcript.{RunOptions}
+use Rattle.cmd_shell.specs.declared.runner.Outcome.{Outcome}
+use Rattle.cmd_shell.specs.declared.runner.ShellFault.{ShellFault}
 use Rattle.program_console.specs.declared.program_fault.ProgramFault.{ProgramFault}
 use Rattle.program_console.specs.declared.program_fault.ProgramFault.TheVariants.{WrongLength, UnreadableImage, UnreadableSession, Read, Write, Memory}
 use Rattle.program_console.specs.Outside.{Outside}
 use Rattle.program_console.specs.Faults.{fault_of_file, Reports}
 use Rattle.cmd_shell.specs.ShellFaults.{fault_of_resume, fault_of_run}
-use Rattle.cmd_shell.specs.Beginnings.{Beginning, Blank, ImageFile, SessionFile, Source, Input, Given}
+use Rattle.cmd_shell.specs.Beginnings.{Beginning, Blank, ImageFile, SessionFile, Source, Input, Given, blank_image}
 
 -- the most bytes of a session file that are read
 abbrev pub session_limit : ℕ
 session_limit = 67108864
 
--- a blank image
-unfoldable pub blank_image : ℕ → List (List ℕ)
-blank_image tracks = replicate (count_of_tracks tracks) (replicate BLOCK_BYTES 0)
-
 -- the history that a script begins with, and the state of the host then
 abbrev pub IsFirstHistory : HostState → Beginning → History → HostState → Type 0
-IsFirstHistory old (Blank tracks) history new = (history ≡ new_history (blank_image tracks)) × (new ≡ old)
+IsFirstHistory old (Blank disk) history new = (history ≡ new_history (blank_image disk)) × (new ≡ old)
 IsFirstHistory old (ImageFile name) history new =
     (image : List (List ℕ)) × IsImage image × FetchesFile old name input_limit (Ok (bytes_of image)) new × (history ≡ new_history image)
 IsFirstHistory old (SessionFile name) history new = IsSession history × FetchesFile old name session_limit (Ok (file_of history)) new
@@ -76,7 +71,7 @@ GivesNoSession (Ok bytes) reported = ((fault : ResumeFault) × (first_resume_fau
 
 -- why there is no session to begin with, and the state of the host then
 abbrev pub HasNoHistory : ProgramFault → HostState → Beginning → HostState → Type 0
-HasNoHistory reported old (Blank tracks) new = (reported ≡ Memory) × (new ≡ old)
+HasNoHistory reported old (Blank disk) new = (reported ≡ Memory) × (new ≡ old)
 HasNoHistory reported old (ImageFile name) new = (fetched : Result (List ℕ) HostFault) × FetchesFile old name input_limit fetched new × GivesNoImage fetched reported
 HasNoHistory reported old (SessionFile name) new = (fetched : Result (List ℕ) HostFault) × FetchesFile old name session_limit fetched new × GivesNoSession fetched reported
 

@@ -2,10 +2,10 @@
 ghost use Rattle.std.specs.Prelude.{◌≡◌};
 ghost use Rattle.cmd_shell.specs.ShellFaults.{fault_of_image, fault_of_resume, fault_of_run};
 
+use crate::runner::ShellFault;
 use d64_image::ImageFault;
 use d64_undo::ResumeFault;
 use program_console::ProgramFault;
-use script_run::ShellFault;
 
 /// Returns the program's fault for the bytes of an image file.
 pub(crate) fn fault_of_image(fault: ImageFault) -> ProgramFault

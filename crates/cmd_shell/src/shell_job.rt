@@ -3,25 +3,25 @@ ghost use Rattle.std.specs.Prelude.{◌≡◌, ℕ, List, Result, Ok, Err, None,
 ghost use Rattle.host_storage.specs.declared.host.HostFault.{HostFault};
 ghost use Rattle.d64_image.specs.Image.{IsImage, bytes_of};
 ghost use Rattle.d64_undo.specs.SessionFile.{IsSession, file_of};
-ghost use Rattle.script_text.specs.Input.{reading_of, input_limit};
+ghost use Rattle.host_storage.specs.Input.{reading_of, input_limit};
 ghost use Rattle.script_commands.specs.Act.{FetchesFile, world_of};
-ghost use Rattle.script_run.specs.Runner.{options_of, script_state};
+ghost use Rattle.cmd_shell.specs.Runner.{options_of, script_state};
 ghost use Rattle.cmd_shell.specs.Beginnings.{Given, beginning_of, refusals_of, source_by, source_of, text_of_lines};
 ghost use Rattle.cmd_shell.specs.Scripts.{beginning_in, options_in, source_in};
-ghost use Rattle.cmd_shell.specs.ShellRuns.{IsDue, IsFirstHistory, IsReadDue, HasNoHistory, GivesNoImage, GivesNoSession, RanFrom, RanShell, StoppedBy, blank_image, session_limit, outcome_status};
+ghost use Rattle.cmd_shell.specs.ShellRuns.{IsDue, IsFirstHistory, IsReadDue, HasNoHistory, GivesNoImage, GivesNoSession, RanFrom, RanShell, StoppedBy, session_limit, outcome_status};
 ghost use Rattle.program_console.specs.Console.{IsDelivered, IsFresh, SameStreams};
 ghost use Rattle.program_console.specs.Outside.{outside_at};
 
+use crate::blank_disk::BlankDisk;
 use crate::faults::{fault_of_image, fault_of_resume, fault_of_run};
-use d64_image::{BLOCKS, Image, ImageFault, blocks_of};
+use crate::run_options::{RunOptions, home_of};
+use crate::runner::{Outcome, ScriptRunner, ShellFault};
+use d64_image::{Image, ImageFault};
 use d64_undo::{Session, SessionReadFault, resume_from};
-use host_storage::{Host, HostFault};
+use host_storage::{Host, HostFault, INPUT_BYTES};
 use program_console::{ALL_ACCEPTED, Console, ProgramFault, SOME_REFUSED};
 use script_commands::host_file::fetch;
-use script_run::{
-    Observer, Opening, Outcome, Refusals, RunOptions, ScriptRunner, ShellFault, home_of,
-};
-use script_text::input::INPUT_BYTES;
+use script_commands::{Observer, Opening, Refusals};
 use std::alloc::{AllocError, Global};
 use std::io::{Read, Write};
 
@@ -33,8 +33,8 @@ const SESSION_BYTES: u32 = 67_108_864;
 pub struct ShellJob<'n> {
     /// The image file on which the script runs, and to which `save` stores by default.
     pub image: Option<&'n str>,
-    /// The tracks of the blank image on which it runs without one.
-    pub tracks: u8,
+    /// The blank disk on which it runs without one.
+    pub disk: BlankDisk,
     /// The session file whose session it continues instead.
     pub resume: Option<&'n str>,
     /// The lines of the script; if there are none, the script is the input.
@@ -67,14 +67,7 @@ impl<'n> ShellJob<'n> {
             (outside_at R.remaining W.contents F.contents console.new (H.state host.new))) }
     {
         let text = given_text(alloc, self.lines)?;
-        let mut session = first_session(
-            alloc,
-            host,
-            self.image,
-            self.tracks,
-            self.resume,
-            observer,
-        )?;
+        let mut session = first_session(alloc, host, self.image, self.disk, self.resume, observer)?;
         observer.begin(&self.opening(), &session);
         let script = GivenScript {
             alloc,
@@ -188,22 +181,22 @@ impl<'n> GivenScript<'n> {
 }
 
 /// Returns the session that the script runs on: of a session file, of an image file, or of a blank
-/// image. The observer gets the file that gives none.
+/// disk. The observer gets the file that gives none.
 fn first_session<H: Host, L: Observer>(
     alloc: Global,
     host: &mut H,
     image: Option<&str>,
-    tracks: u8,
+    disk: BlankDisk,
     resume: Option<&str>,
     observer: &mut L,
 ) -> Result<Session, ProgramFault>
     ensures session { IfOk result (λ session. IsFirstHistory
         (H.state host.old)
-        (beginning_of (option_copied image.entry) tracks (option_copied resume.entry)) session
+        (beginning_of (option_copied image.entry) disk (option_copied resume.entry)) session
         (H.state host.new)) }
     ensures none { IfErr result (λ fault. HasNoHistory fault
         (H.state host.old)
-        (beginning_of (option_copied image.entry) tracks (option_copied resume.entry))
+        (beginning_of (option_copied image.entry) disk (option_copied resume.entry))
         (H.state host.new)) }
 {
     if let Some(name) = resume {
@@ -211,7 +204,7 @@ fn first_session<H: Host, L: Observer>(
     }
     match image {
         Some(name) => Ok(Session::new(alloc, image_of_file(alloc, host, name, observer)?)),
-        None => Ok(Session::new(alloc, blank_image(alloc, tracks)?)),
+        None => Ok(Session::new(alloc, disk.image(alloc)?)),
     }
 }
 
@@ -248,17 +241,6 @@ fn session_of_file<H: Host, L: Observer>(
             host.count_failed_read();
             Err(ProgramFault::UnreadableSession)
         }
-    }
-}
-
-/// Returns a blank image of this many tracks.
-fn blank_image(alloc: Global, tracks: u8) -> Result<Image, AllocError>
-    ensures { IfOk result (λ image. image ≡ blank_image tracks) }
-{
-    if blocks_of(tracks) == Some(BLOCKS) {
-        Image::zeroed40(alloc)
-    } else {
-        Image::zeroed(alloc)
     }
 }
 

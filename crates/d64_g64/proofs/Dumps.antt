@@ -109,6 +109,16 @@ of_g64 bytes begins sound none begins_is sound_is =
     ap₂ (λ (a b : Bool). if a && b then Some (g64_dump bytes) else None) begins_is sound_is
     ∙ sym (ap (λ (part : Option ℕ). option_or (option_map (dump_with bytes) part) (dump_of_g64 bytes)) none)
 
+-- a file is a G64 by its signature and its tracks
+pub by_g64 : (bytes : List ℕ) (begins : Bool) → begins ≡ begins_as_g64 bytes → (if begins && is_g64 bytes then Some (g64_dump bytes) else None) ≡ dump_of_g64 bytes
+unfolding dump_of_g64
+by_g64 bytes begins is = ap (λ (b : Bool). if b && is_g64 bytes then Some (g64_dump bytes) else None) is
+
+-- what is no D64 is the dump that it is as a G64
+pub no_d64 : (bytes : List ℕ) → image_bytes (length bytes) ≡ None → dump_of_g64 bytes ≡ dump_of bytes
+unfolding dump_of d64_dump
+no_d64 bytes none = sym (ap (λ (part : Option ℕ). option_or (option_map (dump_with bytes) part) (dump_of_g64 bytes)) none)
+
 -- a D64 is a dump
 pub d64_is_one : (bytes : List ℕ) → is_some (image_bytes (length bytes)) ≡ true → true ≡ is_some (dump_of bytes)
 unfolding dump_of d64_dump

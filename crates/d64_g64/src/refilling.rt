@@ -1,9 +1,9 @@
-//! The dump that a file is read as: a D64 or a G64.
+//! The dump that a G64 is read as, and which files are dumps.
 ghost use Rattle.std.specs.Prelude.{◌≡◌, if◌then◌else◌, Some, None, OnOk, OnErr, is_some, length};
 ghost use Rattle.d64_survey.specs.Dump.{wrong_dump_length, image_bytes};
 ghost use Rattle.d64_g64.specs.File.{is_g64};
 ghost use Rattle.d64_g64.specs.Dump.{g64_dump};
-ghost use Rattle.d64_g64.specs.DumpOf.{dump_of};
+ghost use Rattle.d64_g64.specs.DumpOf.{dump_of, dump_of_g64};
 
 use crate::dump::read_g64;
 use crate::fault::G64Fault;
@@ -28,8 +28,8 @@ pub fn is_dump(file: &[u8]) -> bool
     begins_as_g64(file) && is_g64(file)
 }
 
-/// Replaces a dump by that of a G64.
-fn refill_from_g64(dump: &mut Dump, alloc: Global, file: &[u8]) -> Result<(), DumpFault>
+/// Replaces a dump by that of a file that begins as a G64.
+fn refill_from_bits(dump: &mut Dump, alloc: Global, file: &[u8]) -> Result<(), DumpFault>
     ensures refused { wrong_dump_length result ≡ (if is_g64 file.now then None else Some (length file.now)) }
     ensures filled { OnOk result (dump.new ≡ g64_dump file.now) }
     ensures unchanged { OnErr result (dump.new ≡ dump.old) }
@@ -41,23 +41,16 @@ fn refill_from_g64(dump: &mut Dump, alloc: Global, file: &[u8]) -> Result<(), Du
     }
 }
 
-/// Replaces a dump by the one that a file is, by its bytes: a D64 of one of the four lengths, or a
-/// G64. The error `WrongLength` has the number of bytes if they are neither, or a bad G64, and then
-/// the dump is unchanged.
-pub fn refill_from(dump: &mut Dump, alloc: Global, file: &[u8]) -> Result<(), DumpFault>
-    ensures refused { wrong_dump_length result ≡ (if is_some (dump_of file.now) then None else Some (length file.now)) }
-    ensures filled { OnOk result (dump_of file.now ≡ Some dump.new) }
+/// Replaces a dump by that of a G64. The error `WrongLength` has the number of bytes if they are no
+/// G64, or a bad one, and then the dump is unchanged.
+pub fn refill_from_g64(dump: &mut Dump, alloc: Global, file: &[u8]) -> Result<(), DumpFault>
+    ensures refused { wrong_dump_length result ≡ (if is_some (dump_of_g64 file.now) then None else Some (length file.now)) }
+    ensures filled { OnOk result (dump_of_g64 file.now ≡ Some dump.new) }
     ensures unchanged { OnErr result (dump.new ≡ dump.old) }
 {
-    match dump.refill(file) {
-        Ok(()) => Ok(()),
-        Err(DumpFault::WrongLength(length)) => {
-            if begins_as_g64(file) {
-                refill_from_g64(dump, alloc, file)
-            } else {
-                Err(DumpFault::WrongLength(length))
-            }
-        }
-        Err(DumpFault::Memory(error)) => Err(DumpFault::Memory(error)),
+    if begins_as_g64(file) {
+        refill_from_bits(dump, alloc, file)
+    } else {
+        Err(DumpFault::WrongLength(file.len()))
     }
 }

@@ -1,7 +1,7 @@
 -- Runs of the program.
 use Rattle.std.proofs.Common.{◌≡◌, ℕ, Bool, List, Option, refl, subst}
-use Rattle.script_text.specs.Input.{Reading}
-use Rattle.script_text.specs.Output.{account_of}
+use Rattle.host_storage.specs.Input.{Reading}
+use Rattle.host_storage.specs.Output.{account_of}
 use Rattle.host_storage.specs.Files.{HostState}
 use Rattle.program_console.specs.Outside.{Outside, outside_of}
 use Rattle.d64_shell.specs.Program.{Ended}

@@ -4,44 +4,27 @@ use Rattle.std.specs.Option.{option_and_then}
 use Rattle.program_arguments.specs.declared.jobs.Job.{Job}
 use Rattle.program_surveys.specs.SurveyFiles.{SurveyFiles, Named, survey_files_of}
 use Rattle.cmd_diff.specs.Comparisons.{PairRule}
-use Rattle.script_run.specs.Transcript.{RunOptions, home_of}
+use Rattle.cmd_shell.specs.Transcript.{RunOptions, home_of}
 use Rattle.cmd_basic.specs.declared.tools.Tool.{Tool}
 use Rattle.program_arguments.specs.declared.jobs.Job.TheVariants.{Shell, Petcat, Crunch, Check, Files, Extract, Map, Catalogue, Diff, Merge}
-use Rattle.program_arguments.specs.declared.jobs.Extraction.{Extraction as RequestedExtraction}
-use Rattle.program_arguments.specs.declared.jobs.Merging.{Merging as RequestedMerging}
-use Rattle.program_arguments.specs.declared.jobs.DiffForm.{DiffForm}
 use Rattle.program_arguments.specs.declared.jobs.Format.{Format}
 use Rattle.program_arguments.specs.declared.jobs.Leftovers.{Leftovers}
-use Rattle.program_batch.specs.Answers.{Rule}
+use Rattle.program_surveys.specs.Answers.{Rule}
 use Rattle.cmd_check.specs.Check.{check_rule, heading_of as check_heading}
 use Rattle.cmd_files.specs.Files.{files_rule, file_heading_of as files_heading}
 use Rattle.cmd_extract.specs.Extracts.{extract_heading}
 use Rattle.out_files.specs.declared.form.Form.{Form}
-use Rattle.cmd_extract.specs.Setup.{ExtractSetupView}
+use Rattle.cmd_extract.specs.Setup.{ExtractSetupView, setup_of}
 use Rattle.cmd_map.specs.Pictures.{map_rule}
 use Rattle.cmd_catalogue.specs.Catalogue.{catalogue_rule, catalogue_heading}
 use Rattle.cmd_diff.specs.Differences.{difference_rule}
-use Rattle.cmd_merge.specs.Setup.{MergeSetupView as MergeView}
+use Rattle.cmd_merge.specs.Setup.{MergeSetupView as MergeView, merge_setup_of}
 use Rattle.cmd_basic.specs.declared.tools.Tool.TheVariants as tools
-use Rattle.cmd_shell.specs.Beginnings.{Beginning, beginning_of, Source, source_of, refusals_of}
+use Rattle.cmd_shell.specs.Beginnings.{Beginning, beginning_of, blank_disk_of, Source, source_of, refusals_of}
 
 -- what is printed of files, in a format, and of what is left over beside them
 abbrev pub form_of : Format → Leftovers → Form
 form_of format leftovers = record { format = format; leftovers = leftovers }
-
--- the options of an extraction that the arguments give, in a form of the output
-abbrev pub setup_of : RequestedExtraction → Form → ExtractSetupView
-setup_of requested form = record { into = string_bytes requested.into; with_parts = requested.part; skips = requested.skip_existing; form = form }
-
--- what a merge of these files is asked for by the arguments, in a form of the output
-abbrev pub merge_setup_of : RequestedMerging → DiffForm → List (List ℕ) → MergeView
-merge_setup_of requested form files = record {
-  out = string_bytes requested.output;
-  preference = record { majority = requested.majority; first = requested.first };
-  plain = requested.plain;
-  form = form;
-  names = files;
-}
 
 -- what a job does: it runs a script of some source with options, from a beginning; runs a tool on
 -- the input, or on the host file of a name, to the output, or to the host file of a second name;
@@ -58,7 +41,7 @@ pub data JobWork : Type 0 where
 -- what each job does
 abbrev pub work_of : Job → JobWork
 work_of (Shell image tracks resume lines stops) =
-    Script (beginning_of (option_map string_bytes image) tracks (option_map string_bytes resume)) (source_of (map string_bytes lines.items))
+    Script (beginning_of (option_map string_bytes image) (blank_disk_of tracks) (option_map string_bytes resume)) (source_of (map string_bytes lines.items))
     (record { home = option_and_then home_of (option_map string_bytes image); refusals = refusals_of stops })
 work_of (Petcat file output) = Conversion tools.Petcat (option_map string_bytes file) (option_map string_bytes output)
 work_of (Crunch start file output) = Conversion (tools.Crunch start) (option_map string_bytes file) (option_map string_bytes output)

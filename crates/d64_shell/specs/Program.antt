@@ -1,11 +1,11 @@
 -- What the program does with its arguments, its streams and a host.
 use Rattle.std.specs.Prelude.{◌≡◌, ℕ, List, ◌∷◌, map, codes, ◌⊎◌, ⊤}
-use Rattle.host_names.specs.Shown.{shown_name}
+use Rattle.host_storage.specs.Shown.{shown_name}
 use Rattle.program_arguments.specs.Requested.{IsFault, IsJob, IsHelpOrVersion}
 use Rattle.program_arguments.specs.declared.jobs.Job.{Job}
 use Rattle.program_arguments.specs.declared.jobs.JobFault.{JobFault}
 use Rattle.program_arguments.specs.declared.jobs.JobFault.TheVariants.{Words}
-use Rattle.program_batch.specs.Answers.{by_rule}
+use Rattle.program_surveys.specs.Answers.{by_rule}
 use Rattle.cmd_extract.specs.Effects.{unpacks}
 use Rattle.program_console.specs.Outside.{Outside}
 use Rattle.program_console.specs.NoJob.{ReportsNoJob}

@@ -1,10 +1,10 @@
 //! The job that arguments ask for, or a fault whose text has them as they are shown.
 ghost use Rattle.std.specs.Prelude.{◌≡◌, List, ℕ, IfErr, IfOk, IfSome, IsTrue, false, map, string_bytes};
 ghost use Rattle.d64_shell.specs.Program.{IsErrorOf, named_words, shown_words};
-ghost use Rattle.host_names.specs.Shown.{shown_name};
+ghost use Rattle.host_storage.specs.Shown.{shown_name};
 ghost use Rattle.program_arguments.specs.Requested.{IsFault, IsJob};
 
-use host_names::push_shown;
+use host_storage::push_shown;
 use program_arguments::{Job, JobFault, job};
 use std::alloc::{AllocError, Global};
 

@@ -1,7 +1,7 @@
 //! The program `d64sh`, from its arguments to its exit status.
 ghost use Rattle.std.specs.Prelude.{◌≡◌, ◌≢◌, ◌≤◌, Bool, false, map, option_map, string_bytes};
-ghost use Rattle.script_text.specs.Input.{Reading, reading_of};
-ghost use Rattle.script_text.specs.Output.{account_of};
+ghost use Rattle.host_storage.specs.Input.{Reading, reading_of};
+ghost use Rattle.host_storage.specs.Output.{account_of};
 ghost use Rattle.program_console.specs.Console.{IsDelivered, IsFresh, SameStreams};
 ghost use Rattle.d64_shell.specs.Jobs.{IsScript, PassesOver, work_of};
 ghost use Rattle.d64_shell.specs.Program.{AsksForShell, AsksToPassOver, Ended, EndedWork};
@@ -11,19 +11,20 @@ ghost use Rattle.cmd_shell.specs.Scripts.{beginning_in, options_in, source_in};
 ghost use Rattle.cmd_shell.specs.ShellRuns.{EndedShell};
 
 use crate::asking::requested_job;
-use crate::comparison::compare_files;
-use crate::extraction::extract_files;
-use crate::merging::merge_files;
-use crate::surveys::{check_disks, draw_map, make_catalogue, print_files};
 use cmd_basic::{Tool, ToolJob};
-use cmd_shell::{ShellJob, exit_status, refusals_of};
-use host_storage::{Host, HostFault};
+use cmd_catalogue::make_catalogue;
+use cmd_check::check_disks;
+use cmd_diff::compare_files;
+use cmd_extract::extract_files;
+use cmd_files::print_files;
+use cmd_map::draw_map;
+use cmd_merge::merge_files;
+use cmd_shell::{BlankDisk, ShellJob, exit_status, refusals_of};
+use host_storage::{Host, HostFault, InputStream, OutputStream};
 use out_files::Form;
 use program_arguments::Job;
 use program_console::{Console, NOT_RUN, report_no_job};
-use script_run::{Nobody, Observer};
-use script_text::input::InputStream;
-use script_text::output::OutputStream;
+use script_commands::{Nobody, Observer};
 use std::alloc::Global;
 use std::io::{Read, Write};
 
@@ -131,7 +132,7 @@ impl<'l, L: Observer> ObservedProgram<'l, L> {
             } => {
                 let job = ShellJob {
                     image: image.as_deref(),
-                    tracks,
+                    disk: BlankDisk::of(tracks),
                     resume: resume.as_deref(),
                     lines: lines.as_slice(),
                     refusals: refusals_of(stops_at_refusal),

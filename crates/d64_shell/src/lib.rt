@@ -3,13 +3,10 @@
 #![tactic(auto)]
 
 mod asking;
-mod comparison;
 mod entry;
-mod extraction;
-mod merging;
-mod surveys;
 
 pub use cmd_basic::{ToolFault, crunch_run, petcat_run};
+pub use cmd_shell::{Outcome, ShellFault, laws, run};
 pub use d64_dos::{Command, Refusal, Reply};
 pub use d64_undo::laws::{
     memory_alone_is_free, memory_for_acceptance, redo_after_undo, retraced, undo_after_command,
@@ -20,4 +17,4 @@ pub use host_memory::MemoryHost;
 pub use host_storage::{FolderHost, Host, HostFault};
 pub use program_arguments::{Job, JobFault, Subcommand, job};
 pub use program_console::{Console, ProgramFault};
-pub use script_run::{Observer, Outcome, ShellFault, laws, run};
+pub use script_commands::{Nobody, Observer};

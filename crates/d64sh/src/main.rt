@@ -4,14 +4,12 @@
 
 ghost use Rattle.program_console.specs.Console.{IsFresh};
 
-use d64_shell::{Console, FolderHost, Job, ObservedProgram, ProgramFault, Subcommand, job};
-use host_storage::{Host, Retrying, SizeLimit, StandardStream};
+use d64_shell::{Console, FolderHost, Job, Nobody, ObservedProgram, ProgramFault, Subcommand, job};
+use host_storage::{Host, InputStream, OutputStream, Retrying, SizeLimit, StandardStream};
 use program_console::{
     MarkingWriter, ProgressLine, QuietWriter, WatchedHost, WipingWriter, WithinLimit,
 };
 use script_hints::Advisor;
-use script_text::input::InputStream;
-use script_text::output::OutputStream;
 use std::alloc::Global;
 use std::cell::Cell;
 use std::env;
@@ -82,6 +80,9 @@ fn run_program<'a, O: Write + Drop, E: Write>(
         OutputStream::new(errors),
     );
     let mut host = WatchedHost::new(line, FolderHost::new(rt));
+    if !may_explain(rt, words) {
+        return Ok(run_unadvised(rt.alloc(), words, &mut console, &mut host));
+    }
     let hints = WithinLimit::new(rt, limit, StandardStream::Error, rt.stderr());
     let mut hints = Retrying(hints);
     let advisor_host = FolderHost::new(rt);
@@ -113,6 +114,32 @@ fn run_advised<A: Write, K: Host + Drop, R: Read, W: Write, F: Write, H: Host>(
     let status = program.run(words, console, host);
     advisor.end_without_session();
     status
+}
+
+/// Whether an advisor may have something to explain: to a person at a terminal, or of lines for which
+/// an option asks, as `-c` and `-e` do.
+fn may_explain(rt: &HostRuntime, words: &[&str]) -> bool {
+    rt.stderr().is_terminal()
+        || words
+            .iter()
+            .any(|word| word.as_bytes().first() == Some(&b'-'))
+}
+
+/// Runs the program with these arguments on a console and a host, and explains nothing.
+fn run_unadvised<R: Read, W: Write, F: Write, H: Host>(
+    alloc: Global,
+    words: &[&str],
+    console: &mut Console<'_, R, W, F>,
+    host: &mut H,
+) -> u8
+    requires fresh { IsFresh console.old }
+{
+    let mut nobody = Nobody;
+    let program = ObservedProgram {
+        alloc,
+        observer: &mut nobody,
+    };
+    program.run(words, console, host)
 }
 
 /// Whether the arguments ask for a program on the output, as `crunch` writes it without `-o`; false

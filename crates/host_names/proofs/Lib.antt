@@ -11,7 +11,4 @@ pub mod SafeNames
 pub mod ManyNames
 pub mod Folders
 pub mod Reserved
-pub mod ShownNames
-pub mod PrintedNames
-pub mod PlainTexts
 pub mod FolderLists

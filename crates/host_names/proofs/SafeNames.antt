@@ -8,7 +8,7 @@ use Rattle.std.proofs.lemmas.List.Elements.{All-nil, All-cons, All-append, All-s
 use Rattle.host_names.specs.declared.ending.Ending.{Ending}
 use Rattle.host_names.specs.HostName.{slash, underscore, full_stop, forbidden_characters, is_forbidden, allowed_name, unhidden_name, is_loose, closed_name, filled_name, is_reserved, device_name, stem, ending_text, part_ending, tail, number_mark, numbered_name}
 use Rattle.host_names.specs.TakenNames.{first_free, next_name}
-use Rattle.host_names.specs.Laws.{AreCounted, StaysInFolder, IsPrinted, EndsWith}
+use Rattle.host_names.specs.Laws.{AreCounted, StaysInFolder, IsPrintableAscii, EndsWith}
 use Rattle.host_names.proofs.Numbers.{IsDigit, digits, first_mark, other_mark}
 use Rattle.host_names.proofs.Search.{first_free_within}
 use Rattle.host_names.proofs.Tails.{each_tail, long_tail}
@@ -106,35 +106,35 @@ name_allowed taken text ending is_part counted =
 
 -- ---- printed bytes
 
-printed_if : (byte : ℕ) (t : Bool) → IsPrinted byte → IsPrinted (if t then underscore else byte)
+printed_if : (byte : ℕ) (t : Bool) → IsPrintableAscii byte → IsPrintableAscii (if t then underscore else byte)
 printed_if byte true is = (omega arith, omega arith)
 printed_if byte false is = is
 
-printed_all : (text : List ℕ) → All IsPrinted text → All IsPrinted (allowed_name text)
+printed_all : (text : List ℕ) → All IsPrintableAscii text → All IsPrintableAscii (allowed_name text)
 unfolding allowed_name
 printed_all text all =
-    All-map IsPrinted (λ byte. if is_forbidden byte then underscore else byte) text
+    All-map IsPrintableAscii (λ byte. if is_forbidden byte then underscore else byte) text
     (λ k d within. printed_if (get_or text k d) (is_forbidden (get_or text k d)) (all k d within))
 
 abbrev is_printed : ℕ → Bool
 is_printed byte = nat_le 32 byte && nat_lt byte 127
 
-printed_from_test : (byte : ℕ) → is_printed byte ≡ true → IsPrinted byte
+printed_from_test : (byte : ℕ) → is_printed byte ≡ true → IsPrintableAscii byte
 printed_from_test byte passes =
     let both = and_parts (nat_le 32 byte) (nat_lt byte 127) passes in
     (leb-true 32 byte both.0, ltb-true byte 127 both.1)
 
-tail_printed : (ending : Ending) (is_part : Bool) → All IsPrinted (tail ending is_part)
+tail_printed : (ending : Ending) (is_part : Bool) → All IsPrintableAscii (tail ending is_part)
 unfolding tail ending_text part_ending
 tail_printed ending is_part =
-    all_from_test IsPrinted is_printed printed_from_test (tail ending is_part)
+    all_from_test IsPrintableAscii is_printed printed_from_test (tail ending is_part)
     (each_tail (λ bytes. list_all is_printed bytes) refl refl refl refl refl refl refl refl refl refl refl refl refl refl ending is_part)
 
 -- each byte of the name of a printed text is printed
-pub name_printed : (taken : List (List ℕ)) (text : List ℕ) (ending : Ending) (is_part : Bool) → AreCounted taken → All IsPrinted text
-    → All IsPrinted (next_name taken text ending is_part)
+pub name_printed : (taken : List (List ℕ)) (text : List ℕ) (ending : Ending) (is_part : Bool) → AreCounted taken → All IsPrintableAscii text
+    → All IsPrintableAscii (next_name taken text ending is_part)
 name_printed taken text ending is_part counted all =
-    next_all IsPrinted taken text ending is_part counted (omega arith, omega arith) (omega arith, omega arith) (omega arith, omega arith) (omega arith, omega arith)
+    next_all IsPrintableAscii taken text ending is_part counted (omega arith, omega arith) (omega arith, omega arith) (omega arith, omega arith) (omega arith, omega arith)
     (λ byte digit. (omega (arith, digit.0), omega (arith, digit.1))) (printed_all text all) (tail_printed ending is_part)
 
 -- ---- names in their folder

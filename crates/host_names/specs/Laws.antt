@@ -33,13 +33,13 @@ NamesAreTakenByHosts = (taken : List (List ℕ)) (text : List ℕ) (ending : End
     → IsTakenByHosts (next_name taken text ending is_part)
 
 -- a byte is printable ASCII, as each byte of a text form is
-abbrev pub IsPrinted : ℕ → Type 0
-IsPrinted byte = (32 ≤ byte) × (byte < 127)
+abbrev pub IsPrintableAscii : ℕ → Type 0
+IsPrintableAscii byte = (32 ≤ byte) × (byte < 127)
 
 -- a name made from printable ASCII is printable ASCII
 abbrev pub NamesArePrinted : Type 0
 NamesArePrinted = (taken : List (List ℕ)) (text : List ℕ) (ending : Ending) (is_part : Bool) → AreCounted taken
-    → All IsPrinted text → All IsPrinted (next_name taken text ending is_part)
+    → All IsPrintableAscii text → All IsPrintableAscii (next_name taken text ending is_part)
 
 -- a name ends with these bytes
 abbrev pub EndsWith : List ℕ → List ℕ → Type 0

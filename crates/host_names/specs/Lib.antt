@@ -1,4 +1,3 @@
-pub mod Shown
 pub mod HostName
 pub mod TakenNames
 pub mod ImagePlace

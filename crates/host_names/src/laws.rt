@@ -1,6 +1,5 @@
 //! Laws of names and folders: empty functions, whose contracts are the laws.
 ghost use Rattle.host_names.specs.Laws.{NamesStayInTheirFolder, NamesAreTakenByHosts, NamesArePrinted, NamesKeepTheirEnding, NamesAreFree, NoTwoNamesAreTheSame, FoldersLeadDown, ImagesStayInTheirFolder};
-ghost use Rattle.host_names.specs.Shown.{NoNameMakesALine};
 
 /// Each name of a file stays in its folder, and each host accepts it. It is printable ASCII if the
 /// text from which it is made is, as each text form is.
@@ -30,11 +29,4 @@ pub fn no_two_names_are_the_same()
 pub fn folders_stay_below()
     ensures folders { FoldersLeadDown }
     ensures image { ImagesStayInTheirFolder }
-{}
-
-/// No name of the host shows a control byte, and no line of JSON does, so that no name controls a
-/// terminal or begins a new line.
-#[inline]
-pub fn no_name_makes_a_line()
-    ensures { NoNameMakesALine }
 {}

@@ -1,1 +1,4 @@
 mod ReadBytes
+pub mod ShownNames
+pub mod PrintedNames
+pub mod PlainTexts

@@ -2,5 +2,8 @@ pub mod Access
 pub mod Files
 pub mod Folders
 pub mod Host
+pub mod Input
 pub mod Obstacles
+pub mod Output
 pub mod Replacement
+pub mod Shown

@@ -1,5 +1,6 @@
-//! Hosts, which read and store the files of the shell by their names, and the host over the folders
-//! of the system, whose stores are whole or not at all.
+//! Hosts, which read and store the files of the shell by their names, and how such names are shown;
+//! the host over the folders of the system, whose stores are whole or not at all; and an input and
+//! an output, which know what was read, delivered and refused.
 //!
 //! Contracts do not speak of the files of a host over folders.
 #![tactic(auto)]
@@ -7,13 +8,19 @@
 mod access;
 mod draft;
 mod folder_host;
+mod hexadecimal;
 mod host;
+mod input;
+pub mod laws;
 mod look;
+mod medium;
 mod new_entry;
 mod new_file;
 mod outcomes;
+mod output;
 mod process_status;
 mod retrying;
+mod shown;
 mod size_limit;
 mod standard_streams;
 mod whole_file;
@@ -23,6 +30,9 @@ mod writes;
 pub use draft::{Draft, replace_by};
 pub use folder_host::FolderHost;
 pub use host::{FolderFault, Host, HostFault, Obstacle, WriteObstacle};
+pub use input::{INPUT_BYTES, INPUT_READS, InputStream, READ_BYTES};
+pub use output::{OutputStream, WriteFault, write_answer};
 pub use retrying::Retrying;
+pub use shown::{hide_in_json, push_shown};
 pub use size_limit::SizeLimit;
 pub use standard_streams::StandardStream;

@@ -17,7 +17,7 @@ use Rattle.out_messages.specs.StateText.{label_text}
 use Rattle.out_messages.specs.FaultText.{fault_text, read_error_text}
 use Rattle.out_messages.specs.FileText.{kind_letters, locked_text, flaws_text}
 use Rattle.out_messages.specs.Names.{quoted_name}
-use Rattle.host_names.specs.Shown.{shown_name}
+use Rattle.host_storage.specs.Shown.{shown_name}
 use Rattle.out_messages.specs.Words.{line_below}
 
 -- this many spaces

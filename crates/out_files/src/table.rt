@@ -6,7 +6,7 @@ ghost use Rattle.out_files.specs.FileTable.{spaces, right_in, left_in, head_line
 use d64_files::{Kind, name_in};
 use d64_image::Image;
 use d64_inventory::FileRow;
-use host_names::push_shown;
+use host_storage::push_shown;
 use itoa::Buffer;
 use out_messages::{kind_letters, locked_text, push_flaws, push_label, push_quoted};
 use std::alloc::AllocError;

@@ -1,7 +1,7 @@
 -- Fields of rows of CSV.
 use Rattle.std.specs.Prelude.{ℕ, Bool, if◌then◌else◌, List, codes}
 use Rattle.std.specs.Str.{is_utf8}
-use Rattle.host_names.specs.Shown.{shown_name}
+use Rattle.host_storage.specs.Shown.{shown_name}
 
 -- `true` or `false`
 abbrev pub truth_text : Bool → List ℕ

@@ -7,7 +7,7 @@ use Rattle.json.specs.Written.{Written}
 use Rattle.json.specs.Json.{Json, null, number, array, object, Items, no_items, item, Members, no_members, member}
 use Rattle.json.specs.Print.{print}
 use Rattle.json.specs.Tree.{json_tokens}
-use Rattle.host_names.specs.Shown.{shown_json}
+use Rattle.host_storage.specs.Shown.{shown_json}
 
 -- a member of an object: its key and its value
 abbrev pub Field : Type 0

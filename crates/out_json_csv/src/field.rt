@@ -9,7 +9,7 @@ use crate::csv_row::CsvRow;
 use crate::hexadecimal::spell_hexadecimal;
 use crate::name::spell;
 use crate::pair_text::pair_text;
-use host_names::push_shown;
+use host_storage::push_shown;
 use itoa::Buffer;
 use std::alloc::AllocError;
 use std::str;

@@ -6,7 +6,7 @@ ghost use Rattle.out_json_csv.specs.Unanswered.{host_value, image_member, unansw
 use crate::member::{put_number, put_text};
 use crate::scratch::Scratch;
 use d64_g64::begins_as_g64;
-use host_names::hide_in_json;
+use host_storage::hide_in_json;
 use json::Writer;
 use std::alloc::AllocError;
 use std::str;

@@ -2,7 +2,7 @@
 -- a file that is not a dump.
 use Rattle.std.specs.Prelude.{ℕ, List, [], ◌++◌, length, codes, decimal, if◌then◌else◌}
 use Rattle.std.specs.Option.{option_map_or}
-use Rattle.host_names.specs.Shown.{shown_name}
+use Rattle.host_storage.specs.Shown.{shown_name}
 use Rattle.out_messages.specs.Guesses.{guess_of, guess_text}
 use Rattle.out_messages.specs.Words.{counted_text}
 use Rattle.out_messages.specs.declared.guess.Guess.{Guess}

@@ -1,7 +1,7 @@
 -- The first characters of a line as it is shown.
 use Rattle.std.specs.Prelude.{ℕ, ◌-◌, ◌==◌, Bool, not, if◌then◌else◌, List, [], ◌∷◌, take}
 use Rattle.std.specs.Int.{is_in_range}
-use Rattle.host_names.specs.Shown.{shown_name}
+use Rattle.host_storage.specs.Shown.{shown_name}
 
 -- a character of UTF-8 begins with this byte
 abbrev pub begins_character : ℕ → Bool

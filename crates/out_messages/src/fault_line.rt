@@ -2,7 +2,7 @@
 //! written, and what the catalogue prints of a file that is not a dump.
 ghost use Rattle.std.specs.Prelude.{◌≡◌, ◌++◌, [], codes, OnOk};
 ghost use Rattle.std.specs.Option.{option_map_or};
-ghost use Rattle.host_names.specs.Shown.{shown_name};
+ghost use Rattle.host_storage.specs.Shown.{shown_name};
 ghost use Rattle.out_messages.specs.Guesses.{guess_of as guess_by_all};
 ghost use Rattle.out_messages.specs.FaultLines.{line_about, unread_line, unwritten_line, present_line, skipped_line, too_much_line, in_brackets, seeming_text, no_dump_text, wrong_length_text, no_dump_reason, wrong_length_line};
 
@@ -10,7 +10,7 @@ use crate::guess::{guess_of, guess_text};
 use crate::number::push_number;
 use crate::words::push_count;
 use d64_g64::begins_as_g64;
-use host_names::push_shown;
+use host_storage::push_shown;
 use std::alloc::AllocError;
 
 /// Appends what the program's lines about a file begin with.

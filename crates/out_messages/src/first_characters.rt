@@ -2,7 +2,7 @@
 ghost use Rattle.std.specs.Prelude.{◌≡◌, IfOk};
 ghost use Rattle.out_messages.specs.ShownStart.{begins_character, first_characters, shown_start};
 
-use host_names::push_shown;
+use host_storage::push_shown;
 use std::alloc::{AllocError, Global};
 
 /// The most characters of a line that are shown.

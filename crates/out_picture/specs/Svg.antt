@@ -5,7 +5,7 @@ use Rattle.d64_image.specs.Disk.{Disk}
 use Rattle.d64_image.specs.Image.{tracks_of}
 use Rattle.d64_survey.specs.Dump.{DumpView}
 use Rattle.d64_survey.specs.Inspection.{entry_count}
-use Rattle.host_names.specs.Shown.{shown_name}
+use Rattle.host_storage.specs.Shown.{shown_name}
 use Rattle.out_messages.specs.StateText.{label_text, contents_text, state_text}
 use Rattle.out_picture.specs.Cells.{column_x, row_y, block_cells}
 use Rattle.out_picture.specs.Legend.{shown_files, rows_below, legend}

@@ -13,7 +13,7 @@ use crate::shapes::{push_number_of, push_text_at, push_text_of};
 use crate::style::push_style;
 use d64_image::Image;
 use d64_survey::Inspection;
-use host_names::push_shown;
+use host_storage::push_shown;
 use out_markup::{push_attribute, push_escaped, push_held, push_number_attribute, push_shortened};
 use out_messages::{push_contents, push_label, push_number, push_state};
 use std::alloc::AllocError;

@@ -1,7 +1,7 @@
 -- Which streams a console works on, and what became of them.
 use Rattle.std.specs.Prelude.{◌≡◌, true, false}
-use Rattle.script_text.specs.Input.{IsUnread, reading_of}
-use Rattle.script_text.specs.declared.output.OutputStream.{OutputStream}
+use Rattle.host_storage.specs.Input.{IsUnread, reading_of}
+use Rattle.host_storage.specs.declared.output.OutputStream.{OutputStream}
 use Rattle.program_console.specs.declared.console.Outputs.{Outputs}
 use Rattle.program_console.specs.declared.console.Console.{Console}
 

@@ -1,7 +1,7 @@
 -- What stops the program, and how that is reported.
 use Rattle.std.specs.Prelude.{◌≡◌, ℕ, List, [], ◌++◌, length, codes}
 use Rattle.std.specs.Fmt.{decimal}
-use Rattle.script_text.specs.Output.{Account, Writes}
+use Rattle.host_storage.specs.Output.{Account, Writes}
 use Rattle.host_storage.specs.declared.host.HostFault.{HostFault}
 use Rattle.host_storage.specs.declared.host.HostFault.TheVariants as files
 use Rattle.program_console.specs.declared.stream_fault.StreamFault.{StreamFault}

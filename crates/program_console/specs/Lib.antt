@@ -2,3 +2,4 @@ pub mod Console
 pub mod Faults
 pub mod NoJob
 pub mod Outside
+pub mod Reasons

@@ -1,7 +1,7 @@
 -- What is printed for arguments that ask for no job.
 use Rattle.std.specs.Prelude.{◌≡◌, ℕ, true, List, MatchOption, ◌⊎◌}
 use Rattle.std.specs.Io.KnownBytes.{Appends, Keeps}
-use Rattle.script_text.specs.Output.{Account, AppendsPart, Writes}
+use Rattle.host_storage.specs.Output.{Account, AppendsPart, Writes}
 use Rattle.program_arguments.specs.Requested.{IsHelpOrVersion}
 use Rattle.program_arguments.specs.declared.jobs.JobFault.{JobFault}
 use Rattle.program_arguments.specs.FaultText.{fault_text_of}

@@ -1,8 +1,8 @@
 -- What is outside of the program: its streams and its host.
 use Rattle.std.specs.Prelude.{ℕ, List, Option}
-use Rattle.script_text.specs.Input.{Reading, reading_of}
-use Rattle.script_text.specs.Output.{Account, account_of}
-use Rattle.script_text.specs.declared.output.OutputStream.{OutputStream}
+use Rattle.host_storage.specs.Input.{Reading, reading_of}
+use Rattle.host_storage.specs.Output.{Account, account_of}
+use Rattle.host_storage.specs.declared.output.OutputStream.{OutputStream}
 use Rattle.host_storage.specs.Files.{HostState}
 use Rattle.program_console.specs.declared.console.Console.{Console}
 

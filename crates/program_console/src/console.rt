@@ -1,10 +1,9 @@
 //! `Console`: the input and the two outputs of the program.
 ghost use Rattle.std.specs.Prelude.{◌≡◌, false, true, OnOk, OnErr};
 ghost use Rattle.std.specs.Io.KnownBytes.{Appends};
-ghost use Rattle.script_text.specs.Output.{AppendsPart, FailsWith};
+ghost use Rattle.host_storage.specs.Output.{AppendsPart, FailsWith};
 
-use script_text::input::InputStream;
-use script_text::output::{OutputStream, WriteFault};
+use host_storage::{InputStream, OutputStream, WriteFault};
 use std::io::{Read, Write};
 
 /// The two outputs of the program.

@@ -1,7 +1,7 @@
 //! The console of the program: the input and the two outputs that it borrows, what is outside of
-//! the program, the faults that stop it, with their lines on standard error, and the exit statuses;
-//! and the streams of the process, with the line that shows progress at a terminal, output whose
-//! reader has gone, and files that may not grow.
+//! the program, the faults that stop it, with their lines on standard error, why a file of the host
+//! cannot be read or written, and the exit statuses; and the streams of the process, with the line
+//! that shows progress at a terminal, output whose reader has gone, and files that may not grow.
 //!
 //! `d64sh` alone uses those streams. They are in a library so that they can be proved before it,
 //! which comes after all other crates.
@@ -12,6 +12,7 @@ mod exit_status;
 mod no_job;
 mod program_fault;
 mod progress;
+mod reason;
 mod stream_fault;
 mod unread_output;
 mod within_limit;
@@ -21,6 +22,7 @@ pub use exit_status::{ALL_ACCEPTED, NOT_RUN, SOME_REFUSED};
 pub use no_job::report_no_job;
 pub use program_fault::ProgramFault;
 pub use progress::{ProgressLine, WatchedHost, WipingWriter};
+pub use reason::{Reason, push_known_reason, reason_of, reason_unwritten};
 pub use stream_fault::StreamFault;
 pub use unread_output::{MarkingWriter, QuietWriter};
 pub use within_limit::WithinLimit;

@@ -7,8 +7,8 @@ ghost use Rattle.program_console.specs.NoJob.{ReportsNoJob, HasShown, HasReporte
 use crate::console::Outputs;
 use crate::exit_status::{ALL_ACCEPTED, NOT_RUN};
 use crate::program_fault::{ProgramFault, report_text};
+use host_storage::OutputStream;
 use program_arguments::JobFault;
-use script_text::output::OutputStream;
 use std::alloc::Global;
 use std::io::Write;
 

@@ -2,16 +2,15 @@
 ghost use Rattle.std.specs.Prelude.{◌≡◌, ◌≤◌, ◌+◌, ◌++◌, Bool, false, length};
 ghost use Rattle.arrayvec.specs.ArrayVec.{array_vec_len};
 ghost use Rattle.program_console.specs.Outside.{account_at};
-ghost use Rattle.script_text.specs.Output.{account_of};
+ghost use Rattle.host_storage.specs.Output.{account_of};
 ghost use Rattle.program_console.specs.Faults.{Reports, ReportsText, fault_of_file, fault_of_stream, program_fault_text, fault_begin, line_with};
 ghost use Rattle.program_console.specs.declared.program_fault.ProgramFault.TheVariants.{Memory};
 
 use crate::exit_status::NOT_RUN;
 use crate::stream_fault::StreamFault;
 use arrayvec::ArrayVec;
-use host_storage::HostFault;
+use host_storage::{HostFault, OutputStream};
 use itoa::Buffer;
-use script_text::output::OutputStream;
 use std::alloc::AllocError;
 use std::io::Write;
 use thiserror::Error;

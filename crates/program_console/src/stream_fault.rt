@@ -1,5 +1,5 @@
 //! `StreamFault`: what stops a job that reads and writes streams.
-use script_text::output::WriteFault;
+use host_storage::WriteFault;
 use std::alloc::AllocError;
 use thiserror::Error;
 

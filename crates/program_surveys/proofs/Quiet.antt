@@ -1,9 +1,10 @@
 -- Why a survey writes nothing to the standard error about a file that it calls clean.
-use Rattle.std.proofs.Common.{◌≡◌, ◌∙◌, [], Option, None, Some, sym, ap}
+use Rattle.std.proofs.Common.{◌≡◌, ◌∙◌, [], Option, None, Some, Result, Ok, Err, sym, ap}
+use Rattle.std.specs.Prelude.{IfOk}
 use Rattle.d64_survey.specs.Dump.{DumpView}
 use Rattle.d64_g64.specs.DumpOf.{dump_of}
-use Rattle.program_batch.specs.Answers.{Answer, KeepsQuiet, by_rule}
-use Rattle.program_batch.specs.declared.report.Verdict.TheVariants.{Clean, Failed}
+use Rattle.program_surveys.specs.Answers.{Answer, KeepsQuiet, by_rule}
+use Rattle.program_surveys.specs.declared.report.Verdict.TheVariants.{Clean, Failed}
 use Rattle.program_surveys.specs.Printings.{Printing, bytes_answer, survey_rule}
 
 -- the result for a dump has no complaint, and a result with a complaint is a failure
@@ -15,3 +16,8 @@ survey-is_quiet printing name (Some bytes) old answer new done clean = by_dump (
     by_dump : (dump : Option DumpView) → answer ≡ bytes_answer printing name bytes dump → answer.complaint ≡ []
     by_dump None is = let failed : Failed ≡ Clean = sym (ap (λ (a : Answer). a.verdict) is) ∙ clean in cc
     by_dump (Some dump) is = ap (λ (a : Answer). a.complaint) is
+
+-- a report writes nothing to the standard error about a clean image, if there was memory to begin
+pub report_is_quiet : {A E : Type 0} (made : Result A E) (printing : A → Printing) → IfOk made (λ report. KeepsQuiet (by_rule (survey_rule (printing report))))
+report_is_quiet (Ok report) printing = survey-is_quiet (printing report)
+report_is_quiet (Err error) printing = tt

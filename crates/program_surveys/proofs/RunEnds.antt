@@ -1,7 +1,7 @@
 -- How a run without a list has ended, by how it was reported.
 use Rattle.std.proofs.Common.{◌≡◌, ℕ, Result, subst}
-use Rattle.program_batch.specs.Runs.{RunState}
-use Rattle.program_batch.specs.declared.report.Verdict.{Verdict}
+use Rattle.program_surveys.specs.Runs.{RunState}
+use Rattle.program_surveys.specs.declared.report.Verdict.{Verdict}
 use Rattle.program_console.specs.Outside.{Outside}
 use Rattle.program_console.specs.declared.stream_fault.StreamFault.{StreamFault}
 use Rattle.program_surveys.specs.JobEnds.{EndedRun, ReportsRun, first_state}

@@ -2,16 +2,16 @@
 use Rattle.std.proofs.Common.{◌≡◌, ℕ, List, map, true, false, Bool, Option, Result, Ok, Err, refl, sym, subst, Bor, String, Global, string_bytes}
 use Rattle.std.proofs.lemmas.Simd.{map-map}
 use Rattle.std.specs.Prelude.{MatchBool}
-use Rattle.script_text.specs.Output.{Account}
-use Rattle.program_batch.specs.Names.{Request, File}
-use Rattle.program_batch.specs.Answers.{Effects}
+use Rattle.host_storage.specs.Output.{Account}
+use Rattle.program_surveys.specs.Names.{Request, File}
+use Rattle.program_surveys.specs.Answers.{Effects}
 use Rattle.host_storage.specs.Files.{HostState}
-use Rattle.program_batch.specs.Runs.{Begins, Runs, RunState, run_state, reported_of}
-use Rattle.program_batch.specs.Lists.{RunsStream}
+use Rattle.program_surveys.specs.Runs.{Begins, Runs, RunState, run_state, reported_of}
+use Rattle.program_surveys.specs.Lists.{RunsStream}
 use Rattle.program_console.specs.declared.stream_fault.StreamFault.{StreamFault}
 use Rattle.program_console.specs.declared.stream_fault.StreamFault.TheVariants as stops
-use Rattle.program_batch.specs.declared.report.Verdict.{Verdict}
-use Rattle.program_batch.specs.declared.report.Verdict.TheVariants.{Clean}
+use Rattle.program_surveys.specs.declared.report.Verdict.{Verdict}
+use Rattle.program_surveys.specs.declared.report.Verdict.TheVariants.{Clean}
 use Rattle.program_surveys.specs.JobEnds.{EndedSurvey, first_state}
 use Rattle.program_console.specs.Outside.{Outside}
 use Rattle.program_console.specs.Faults.{Reports}
@@ -86,3 +86,8 @@ not_begun effects heading files old new status reader output host reports = reco
   output = output;
   reports = reports;
 }
+
+-- a survey of files has ended as one of the same files has
+pub survey_of : (effects : Effects) (heading : List ℕ) (files shown : SurveyFiles) (old new : Outside) (status : ℕ)
+    → shown ≡ files → EndedSurvey effects heading shown old new status → EndedSurvey effects heading files old new status
+survey_of effects heading files shown old new status same ended = subst (λ (f : SurveyFiles). EndedSurvey effects heading f old new status) same ended

@@ -9,10 +9,10 @@ use Rattle.out_json_csv.specs.Unanswered.{unread_object, no_dump_object}
 use Rattle.out_messages.specs.FaultLines.{unread_line, wrong_length_line}
 use Rattle.program_arguments.specs.declared.jobs.DiffForm.{DiffForm}
 use Rattle.program_arguments.specs.declared.jobs.DiffForm.TheVariants.{Text, Json}
-use Rattle.program_batch.specs.Names.{File}
-use Rattle.program_batch.specs.Reasons.{with_known_reason}
-use Rattle.program_batch.specs.Runs.{IsFetched, SaysWhy}
-use Rattle.program_batch.specs.declared.reason.Reason.{Reason}
+use Rattle.program_surveys.specs.Names.{File}
+use Rattle.program_console.specs.Reasons.{with_known_reason}
+use Rattle.program_surveys.specs.Runs.{IsFetched, SaysWhy}
+use Rattle.program_console.specs.declared.reason.Reason.{Reason}
 
 -- what is read of a file: its bytes, or why it cannot be read, if that is known
 abbrev pub Contents : Type 0

@@ -2,16 +2,16 @@
 use Rattle.std.specs.Prelude.{◌≡◌, ℕ, List, Option, None, MatchBool, Result, Ok, Err, ◌⊎◌}
 use Rattle.host_storage.specs.Files.{Files}
 use Rattle.host_storage.specs.declared.host.HostFault.TheVariants.{Device}
-use Rattle.script_text.specs.Output.{Account, Writes}
+use Rattle.host_storage.specs.Output.{Account, Writes}
 use Rattle.out_messages.specs.FaultLines.{unread_line}
-use Rattle.program_batch.specs.Answers.{Effects, status_of as verdict_status}
-use Rattle.program_batch.specs.Runs.{RunState, Reported, run_state, reported_of}
-use Rattle.program_batch.specs.Reasons.{IsReason, with_known_reason}
-use Rattle.program_batch.specs.declared.reason.Reason.{Reason}
+use Rattle.program_surveys.specs.Answers.{Effects, status_of as verdict_status}
+use Rattle.program_surveys.specs.Runs.{RunState, Reported, run_state, reported_of}
+use Rattle.program_console.specs.Reasons.{IsReason, with_known_reason}
+use Rattle.program_console.specs.declared.reason.Reason.{Reason}
 use Rattle.program_console.specs.declared.stream_fault.StreamFault.{StreamFault}
 use Rattle.program_console.specs.declared.stream_fault.StreamFault.TheVariants as run_faults
-use Rattle.program_batch.specs.declared.report.Verdict.{Verdict}
-use Rattle.program_batch.specs.declared.report.Verdict.TheVariants.{Clean}
+use Rattle.program_surveys.specs.declared.report.Verdict.{Verdict}
+use Rattle.program_surveys.specs.declared.report.Verdict.TheVariants.{Clean}
 use Rattle.program_surveys.specs.SurveyFiles.{SurveyFiles, list_name}
 use Rattle.program_surveys.specs.Surveys.{Surveys, is_input}
 use Rattle.program_console.specs.declared.program_fault.ProgramFault.TheVariants.{Write, Memory}

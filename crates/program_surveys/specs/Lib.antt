@@ -1,3 +1,8 @@
+pub mod Names
+pub mod Answers
+pub mod Asked
+pub mod Runs
+pub mod Lists
 pub mod SurveyFiles
 pub mod Surveys
 pub mod JobEnds

@@ -4,8 +4,8 @@ use Rattle.d64_image.specs.Disk.{Bytes}
 use Rattle.d64_survey.specs.Dump.{DumpView}
 use Rattle.d64_g64.specs.DumpOf.{dump_of}
 use Rattle.out_messages.specs.FaultLines.{unread_line, wrong_length_line}
-use Rattle.program_batch.specs.Answers.{Answer, Rule, answer_of}
-use Rattle.program_batch.specs.declared.report.Verdict.TheVariants.{Clean, Amiss, Failed}
+use Rattle.program_surveys.specs.Answers.{Answer, Rule, answer_of}
+use Rattle.program_surveys.specs.declared.report.Verdict.TheVariants.{Clean, Amiss, Failed}
 
 -- what a printer prints: before the first result, of a file with this name whose bytes are this
 -- dump, of one that cannot be read, and of one whose bytes are no dump; and which dumps are amiss

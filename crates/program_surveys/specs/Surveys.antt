@@ -2,16 +2,16 @@
 use Rattle.std.specs.Prelude.{◌≡◌, ℕ, List, Bool, true, false, MatchBool, bytes_eq, map, codes, Option, Result, Ok, Err}
 use Rattle.host_storage.specs.declared.host.HostFault.{HostFault}
 use Rattle.host_storage.specs.declared.host.HostFault.TheVariants as refusals
-use Rattle.script_text.specs.Output.{Account}
-use Rattle.program_batch.specs.Names.{File}
-use Rattle.program_batch.specs.Answers.{Effects}
+use Rattle.host_storage.specs.Output.{Account}
+use Rattle.program_surveys.specs.Names.{File}
+use Rattle.program_surveys.specs.Answers.{Effects}
 use Rattle.host_storage.specs.Files.{HostState}
 use Rattle.host_storage.specs.Host.{CountsDevice, Opens, one_more_failure}
-use Rattle.program_batch.specs.Runs.{Begins, Runs, RunState, run_state, reported_of}
-use Rattle.program_batch.specs.Lists.{RunsStream}
+use Rattle.program_surveys.specs.Runs.{Begins, Runs, RunState, run_state, reported_of}
+use Rattle.program_surveys.specs.Lists.{RunsStream}
 use Rattle.program_console.specs.declared.stream_fault.StreamFault.{StreamFault}
 use Rattle.program_console.specs.declared.stream_fault.StreamFault.TheVariants as faults
-use Rattle.program_batch.specs.declared.report.Verdict.{Verdict}
+use Rattle.program_surveys.specs.declared.report.Verdict.{Verdict}
 use Rattle.program_surveys.specs.SurveyFiles.{SurveyFiles, Named, ListedIn}
 
 -- the list is the standard input

@@ -3,7 +3,7 @@ ghost use Rattle.std.specs.Prelude.{◌≡◌, if◌then◌else◌, Some, None, 
 ghost use Rattle.d64_survey.specs.Dump.{wrong_dump_length};
 ghost use Rattle.d64_g64.specs.DumpOf.{dump_of};
 
-use d64_g64::refill_from;
+use crate::refilling::refill_from;
 use d64_image::Image;
 use d64_survey::{Dump, DumpFault, Fault, ReadError};
 use std::alloc::{AllocError, Global};

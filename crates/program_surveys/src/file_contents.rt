@@ -4,13 +4,11 @@ ghost use Rattle.std.specs.Prelude.{◌≡◌, ◌++◌, [], Ok, IfErr, IfOk, On
 ghost use Rattle.program_surveys.specs.FileContents.{IsReadAs, contents_by, contents_fault_line, printed_contents_fault};
 
 use d64_g64::is_dump;
-use host_storage::{Host, HostFault};
+use host_storage::{Host, HostFault, INPUT_BYTES};
 use out_json_csv::{Scratch, no_dump_json, unread_json};
 use out_messages::{unread_line, wrong_length_line};
 use program_arguments::DiffForm;
-use program_batch::{Reason, push_known_reason, reason_of};
-use program_console::StreamFault;
-use script_text::input::INPUT_BYTES;
+use program_console::{Reason, StreamFault, push_known_reason, reason_of};
 use std::alloc::{AllocError, Global};
 
 /// Returns the bytes of a file of the host, or why it cannot be read, as far as the host can say. A

@@ -1,25 +1,28 @@
 //! The run of a survey: a report on each file that the arguments or a list name.
 ghost use Rattle.std.specs.Prelude.{◌≡◌, ◌≤◌, ℕ, List, [], Err, IfErr, IfOk, Ok, OnOk, Result, true};
 ghost use Rattle.host_storage.specs.declared.host.HostFault.{HostFault};
-ghost use Rattle.program_batch.specs.Answers.{KeepsQuiet};
-ghost use Rattle.program_batch.specs.Reasons.{with_known_reason};
+ghost use Rattle.program_surveys.specs.Answers.{KeepsQuiet};
+ghost use Rattle.program_console.specs.Reasons.{with_known_reason};
 ghost use Rattle.out_messages.specs.FaultLines.{unread_line};
-ghost use Rattle.program_batch.specs.Runs.{run_state_at};
+ghost use Rattle.program_surveys.specs.Runs.{run_state_at};
 ghost use Rattle.program_surveys.specs.JobEnds.{EndedSurvey, IsListReason, ReportsFault};
 ghost use Rattle.program_console.specs.Console.{Delivers, IsDelivered, IsFresh, SameStreams, SameWriters};
 ghost use Rattle.program_console.specs.Outside.{account_at, outside_at};
 ghost use Rattle.program_surveys.specs.SurveyFiles.{files_in, list_name};
 ghost use Rattle.program_surveys.specs.Surveys.{IsOpened, RunsListFile, EndsSurveyWith, Surveys, fault_of_list};
 ghost use Rattle.program_console.specs.declared.stream_fault.StreamFault.{StreamFault};
-ghost use Rattle.program_batch.specs.declared.report.Verdict.{Verdict};
+ghost use Rattle.program_surveys.specs.declared.report.Verdict.{Verdict};
 
+use crate::batch::Batch;
 use crate::file_names::FileNames;
-use host_storage::{Host, HostFault};
+use crate::list_batch::ListBatch;
+use crate::report::Verdict;
+use crate::task::FileTask;
+use host_storage::{Host, HostFault, InputStream, OutputStream};
 use out_messages::unread_line;
-use program_batch::{Batch, FileTask, ListBatch, Reason, Verdict, push_known_reason, reason_of};
-use program_console::{Console, NOT_RUN, Outputs, ProgramFault, StreamFault};
-use script_text::input::InputStream;
-use script_text::output::OutputStream;
+use program_console::{
+    Console, NOT_RUN, Outputs, ProgramFault, Reason, StreamFault, push_known_reason, reason_of,
+};
 use std::alloc::{AllocError, Global};
 use std::io::{Read, Write};
 

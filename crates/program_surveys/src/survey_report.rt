@@ -1,14 +1,15 @@
 //! `SurveyReport`: the report of a survey, by a printer.
 ghost use Rattle.std.specs.Prelude.{◌≡◌, IfOk};
-ghost use Rattle.program_batch.specs.Answers.{Rule, by_rule};
+ghost use Rattle.program_surveys.specs.Answers.{Rule, by_rule};
 ghost use Rattle.program_surveys.specs.Printings.{survey_rule};
 
 use crate::dump_buffer::DumpBuffer;
 use crate::printer::Printer;
+use crate::report::{ReportBuffer, Verdict};
+use crate::task::FileTask;
 use d64_survey::{DumpFault, Inspection};
 use host_storage::Host;
 use out_messages::{unread_line, wrong_length_line};
-use program_batch::{FileTask, ReportBuffer, Verdict};
 use std::alloc::{AllocError, Global};
 use std::mem;
 

@@ -1,14 +1,14 @@
 //! `WholeTask`: a task that is done once for all of its files, and its run.
 ghost use Rattle.std.specs.Prelude.{◌≡◌, ◌≤◌, OnOk, Result, false};
-ghost use Rattle.program_batch.specs.Runs.{RunState, run_state_at};
-ghost use Rattle.program_batch.specs.declared.report.Verdict.TheVariants.{Clean};
+ghost use Rattle.program_surveys.specs.Runs.{RunState, run_state_at};
+ghost use Rattle.program_surveys.specs.declared.report.Verdict.TheVariants.{Clean};
 ghost use Rattle.program_console.specs.Console.{Delivers, IsDelivered, SameStreams, SameWriters};
 ghost use Rattle.program_console.specs.Outside.{outside_at};
 ghost use Rattle.program_console.specs.declared.stream_fault.StreamFault.{StreamFault};
 ghost use Rattle.program_surveys.specs.JobEnds.{EndedRun};
 
+use crate::batch::Batch;
 use host_storage::Host;
-use program_batch::Batch;
 use program_console::{Console, Outputs, ProgramFault, StreamFault};
 use std::alloc::Global;
 use std::io::{Read, Write};

@@ -1,5 +1,5 @@
 //! The commands of a script: which there are, the arguments of each, its effect on the session and
-//! the host, its status, and the lines that it prints.
+//! the host, its status, and the lines that it prints; and what observes them, line by line.
 #![tactic(auto)]
 
 mod answer;
@@ -10,8 +10,10 @@ mod history_text;
 pub mod host_file;
 mod line;
 mod listing_text;
+mod observer;
 mod response;
 pub mod status_from;
 
 pub use answer::answer_line;
+pub use observer::{Nobody, Observer, Opening, Refusals};
 pub use response::{Output, Response};

@@ -1,11 +1,11 @@
 //! What a handler returns: the status of a line, and what it prints.
 ghost use Rattle.std.specs.Prelude.{◌≡◌, OnOk, OnErr};
 ghost use Rattle.std.specs.Io.KnownBytes.{Appends};
-ghost use Rattle.script_text.specs.Output.{AppendsPart, FailsWith};
+ghost use Rattle.host_storage.specs.Output.{AppendsPart, FailsWith};
 
 use d64_image::{BlockNo, Image};
+use host_storage::{OutputStream, WriteFault};
 use script_text::dump::dump;
-use script_text::output::{OutputStream, WriteFault};
 use script_text::status::Status;
 use std::io::Write;
 

@@ -2,7 +2,7 @@
 use Rattle.std.proofs.Common.{◌≡◌, ℕ, List, ◌++◌, Option, Bool, sym, ap, ◌∙◌, append_assoc, inl, inr}
 use Rattle.std.specs.Io.KnownBytes.{Appends}
 use Rattle.std.proofs.KnownBytes.{Appends-trans}
-use Rattle.script_text.specs.Output.{AppendsPart, Writes, account_of}
+use Rattle.host_storage.specs.Output.{AppendsPart, Writes, account_of}
 
 -- a first part of some bytes is a first part of more
 pub AppendsPart-more : (old new : Option (List ℕ)) (bytes rest : List ℕ) → AppendsPart old new bytes → AppendsPart old new (bytes ++ rest)

@@ -2,8 +2,8 @@
 use Rattle.std.specs.Prelude.{◌≡◌, ℕ, Bool, true, false, if◌then◌else◌, ◌⊎◌, codes}
 use Rattle.d64_image.specs.Disk.{Bytes}
 use Rattle.script_text.specs.RawLines.{is_too_long, text_of}
-use Rattle.script_run.specs.declared.run_options.Refusals.{Refusals}
-use Rattle.script_run.specs.declared.run_options.Refusals.TheVariants.{GoOn, Stop}
+use Rattle.script_commands.specs.declared.observer.Refusals.{Refusals}
+use Rattle.script_commands.specs.declared.observer.Refusals.TheVariants.{GoOn, Stop}
 use Rattle.script_hints.specs.LineStart.{line_start}
 
 -- whether a refused line ends its script

@@ -6,7 +6,7 @@ use Rattle.host_storage.specs.Files.{HostState}
 use Rattle.host_storage.specs.Folders.{Looks}
 use Rattle.d64_undo.specs.History.{History}
 use Rattle.d64_undo.specs.SessionFile.{file_of}
-use Rattle.host_names.specs.Shown.{shown_name}
+use Rattle.host_storage.specs.Shown.{shown_name}
 
 -- the file that keeps the session of an image
 abbrev pub session_name : Bytes → Bytes

@@ -1,7 +1,7 @@
 -- The beginning of the explanation of a refused line of a script.
 use Rattle.std.specs.Prelude.{ℕ, ◌++◌, codes, decimal}
 use Rattle.d64_image.specs.Disk.{Bytes}
-use Rattle.host_names.specs.Shown.{shown_name}
+use Rattle.host_storage.specs.Shown.{shown_name}
 use Rattle.out_messages.specs.ShownStart.{shown_start}
 
 -- a line as it is shown: as the name of a host file is

@@ -2,7 +2,7 @@
 use Rattle.std.specs.Prelude.{◌++◌, Bool, Option, Some, None, if◌then◌else◌, codes}
 use Rattle.d64_image.specs.Disk.{Bytes}
 use Rattle.script_commands.specs.Arguments.{after_slash}
-use Rattle.host_names.specs.Shown.{shown_name}
+use Rattle.host_storage.specs.Shown.{shown_name}
 
 -- the name in the prompt: that of the image file, without its folders, as names are shown, if there
 -- is one

@@ -4,8 +4,8 @@ use Rattle.std.specs.Option.{option_map_or}
 use Rattle.d64_image.specs.Disk.{Bytes}
 use Rattle.host_storage.specs.Files.{Files}
 use Rattle.host_storage.specs.declared.host.HostFault.{HostFault}
-use Rattle.program_batch.specs.Reasons.{IsReason, reason_text}
-use Rattle.program_batch.specs.declared.reason.Reason.{Reason}
+use Rattle.program_console.specs.Reasons.{IsReason, reason_text}
+use Rattle.program_console.specs.declared.reason.Reason.{Reason}
 use Rattle.out_messages.specs.FaultLines.{line_about}
 use Rattle.out_messages.specs.Guesses.{guess_of, guess_text}
 use Rattle.out_messages.specs.Words.{counted_text}

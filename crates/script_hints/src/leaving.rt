@@ -3,8 +3,7 @@ ghost use Rattle.std.specs.Prelude.{◌≡◌, IfOk, IfSome, option_copied};
 ghost use Rattle.script_hints.specs.Leaving.{IsKeptUnder, kept_line, session_name};
 
 use d64_undo::Session;
-use host_names::push_shown;
-use host_storage::Host;
+use host_storage::{Host, push_shown};
 use std::alloc::{AllocError, Global};
 
 /// Stores a session under its image's name with `.session` added, if there is an image and nothing

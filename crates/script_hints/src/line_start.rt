@@ -4,7 +4,7 @@ ghost use Rattle.std.specs.Prelude.{◌≡◌, ◌++◌, codes, decimal, IfOk};
 ghost use Rattle.out_messages.specs.ShownStart.{shown_start};
 ghost use Rattle.script_hints.specs.LineStart.{line_start, shown_raw_line};
 
-use host_names::push_shown;
+use host_storage::push_shown;
 use out_messages::{push_number, shown_start};
 use std::alloc::{AllocError, Global};
 

@@ -1,12 +1,11 @@
 //! The prompt: which image a session is of, and whether it has changes that are not saved.
 ghost use Rattle.std.specs.Prelude.{◌≡◌, ◌++◌, IfOk, OnOk, OnErr, option_copied};
-ghost use Rattle.script_text.specs.Output.{Writes};
+ghost use Rattle.host_storage.specs.Output.{Writes};
 ghost use Rattle.program_console.specs.Outside.{account_at};
 ghost use Rattle.script_commands.specs.Arguments.{after_slash};
 ghost use Rattle.script_hints.specs.Prompt.{prompt_mark, name_in_prompt, prompt};
 
-use host_names::push_shown;
-use script_text::output::{OutputStream, WriteFault};
+use host_storage::{OutputStream, WriteFault, push_shown};
 use std::alloc::{AllocError, Global};
 use std::io::Write;
 

@@ -3,10 +3,9 @@ ghost use Rattle.std.specs.Prelude.{◌≡◌, IfOk, IfSome};
 ghost use Rattle.out_messages.specs.FaultLines.{line_about};
 ghost use Rattle.script_hints.specs.Unfit.{IsUnfitLine, fetched_by, look_of, unfit_text};
 
-use host_names::push_shown;
-use host_storage::{Host, HostFault};
+use host_storage::{Host, HostFault, push_shown};
 use out_messages::{guess_of, guess_text, push_count};
-use program_batch::reason_of;
+use program_console::reason_of;
 use std::alloc::{AllocError, Global};
 
 /// The line that says why no session begins with the file of this name: it has these bytes, as many

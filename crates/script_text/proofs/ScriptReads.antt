@@ -4,7 +4,7 @@ use Rattle.std.proofs.Math.Seq.{take-append-add}
 use Rattle.std.proofs.lemmas.Bool.{false≢true}
 use Rattle.std.specs.Io.KnownBytes.{Consumes, IsAtEnd}
 use Rattle.std.proofs.KnownBytes.{Consumes-trans}
-use Rattle.script_text.specs.Input.{input_limit}
+use Rattle.host_storage.specs.Input.{input_limit}
 use Rattle.script_text.specs.Script.{IsReadFrom}
 use Rattle.script_text.specs.declared.script.Script.{Script}
 

@@ -1,7 +1,5 @@
 pub mod Dump
 pub mod Number
-pub mod Input
-pub mod Output
 pub mod Parts
 pub mod RawLines
 pub mod Script

@@ -2,7 +2,7 @@
 use Rattle.std.specs.Prelude.{◌≡◌, ◌≤◌, ℕ, Bool, true, false, List, ◌++◌, ◌⊎◌, length, take, Option, IfSome, ◌==◌}
 use Rattle.std.specs.List.{list_any, slice_split}
 use Rattle.std.specs.Io.KnownBytes.{Consumes}
-use Rattle.script_text.specs.Input.{reads_limit, input_limit}
+use Rattle.host_storage.specs.Input.{reads_limit, input_limit}
 
 -- the parts of an input between its separators; the last one is what comes after the last
 -- separator, and may be empty

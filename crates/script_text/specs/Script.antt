@@ -1,7 +1,7 @@
 -- What a whole input has, and what its reader has left after it was read.
 use Rattle.std.specs.Prelude.{◌≡◌, ℕ, Option, ◌≤◌, List, length, take, IsTrue}
 use Rattle.std.specs.Io.KnownBytes.{Consumes, IsAtEnd}
-use Rattle.script_text.specs.Input.{input_limit}
+use Rattle.host_storage.specs.Input.{input_limit}
 use Rattle.script_text.specs.declared.script.Script.{Script}
 
 -- the script has the bytes that the reader gave, up to the limit, and is whole only if the reader

@@ -3,7 +3,7 @@ ghost use Rattle.std.specs.Prelude.{◌≡◌, ◌≤◌, ◌<◌, ◌+◌, ◌^
 ghost use Rattle.std.specs.ControlFlow.{MatchControlFlow};
 ghost use Rattle.script_text.specs.Parts.{Lacks};
 
-use crate::output::OutputStream;
+use host_storage::OutputStream;
 use std::io::Write;
 use std::ops::ControlFlow;
 

@@ -1,11 +1,11 @@
 //! Reading an input and cutting it into parts.
 ghost use Rattle.std.specs.Prelude.{◌≡◌, ◌≤◌, ◌<◌, ◌+◌, ◌^◌, ℕ, List, [], ◌∷◌, ◌++◌, length, take, true, false, Some, MatchOption, MatchResult, OnErr};
 ghost use Rattle.std.specs.ControlFlow.{MatchControlFlow};
-ghost use Rattle.script_text.specs.Input.{IsUnread, IsUnreadable, reading_of, input_limit};
+ghost use Rattle.host_storage.specs.Input.{IsUnread, IsUnreadable, reading_of, input_limit};
 ghost use Rattle.script_text.specs.Parts.{CutsShort, Ends, HasCome, Lacks, parts_of};
 
-use crate::input::{INPUT_BYTES, INPUT_READS, InputStream, READ_BYTES};
 use crate::part_handler::PartHandler;
+use host_storage::{INPUT_BYTES, INPUT_READS, InputStream, READ_BYTES};
 use std::io::Read;
 use std::ops::ControlFlow;
 use thiserror::Error;

@@ -1,10 +1,10 @@
 //! Reading a whole script or text, within its limits.
 
 ghost use Rattle.std.specs.Prelude.{◌≡◌, ◌≤◌, true, false, IfOk, vec_len, MatchBool};
-ghost use Rattle.script_text.specs.Input.{IsUnread, IsUnreadable, reading_of, input_limit};
+ghost use Rattle.host_storage.specs.Input.{IsUnread, IsUnreadable, reading_of, input_limit};
 ghost use Rattle.script_text.specs.Script.{IsReadFrom};
 
-use crate::input::{INPUT_BYTES, INPUT_READS, InputStream, READ_BYTES};
+use host_storage::{INPUT_BYTES, INPUT_READS, InputStream, READ_BYTES};
 use std::alloc::{AllocError, Global};
 use std::io::Read;
 

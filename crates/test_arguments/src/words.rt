@@ -4,8 +4,8 @@
 //! The rows are text, since that is proved and compiled once for all of them: the arguments after
 //! the program's name, with `|` between them, then ` => ` and the expected result.
 
+use host_storage::WriteFault;
 use program_arguments::{JobFault, job};
-use script_text::output::WriteFault;
 use std::alloc::Global;
 use std::test::Fail;
 

@@ -5,7 +5,7 @@ use host_memory::MemoryHost;
 use host_storage::Host;
 use out_files::Form;
 use program_arguments::{Format, Leftovers};
-use program_batch::{FileTask, ReportBuffer, Verdict};
+use program_surveys::{FileTask, ReportBuffer, Verdict};
 use std::alloc::Global;
 use std::process::Abort;
 use std::test::Fail;

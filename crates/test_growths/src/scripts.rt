@@ -7,10 +7,10 @@ use crate::sessions::Beside;
 use crate::texts::{START, TEXT};
 use cbm_text::{BasicFault, ListFault};
 use cmd_basic::ToolFault;
+use cmd_shell::{Outcome, ShellFault};
 use host_memory::MemoryHost;
 use program_arguments::JobFault;
 use program_console::ProgramFault;
-use script_run::{Outcome, ShellFault};
 use std::alloc::{AllocError, Global};
 use std::fmt::Display;
 use std::test::Fail;
@@ -31,7 +31,7 @@ fn play(
 ) -> End {
     let mut script = line.as_bytes();
     bench.begin();
-    let answer = script_run::run(
+    let answer = cmd_shell::run(
         bench.alloc(),
         &mut script,
         written,

@@ -1,10 +1,9 @@
 //! The text of scripts and of their output.
 
+use host_storage::{InputStream, write_answer};
 use script_text::dump::dump;
 use script_text::held_line::HeldLine;
-use script_text::input::InputStream;
 use script_text::number::number;
-use script_text::output::write_answer;
 use script_text::raw_lines::{RawLines, is_skipped, text};
 use script_text::script::read_input;
 use script_text::status::Status;

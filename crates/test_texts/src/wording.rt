@@ -1,6 +1,6 @@
 //! Names of the host and files of wrong lengths, in words.
 
-use host_names::push_shown;
+use host_storage::push_shown;
 use out_messages::{unread_line, wrong_length_line};
 use std::test::Fail;
 

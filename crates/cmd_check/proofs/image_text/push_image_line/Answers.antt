@@ -1,6 +1,6 @@
 use Rattle.std.proofs.Common.{List, ℕ, ◌++◌, ap, ◌∙◌}
 use Rattle.std.specs.Prelude.{codes}
-use Rattle.host_names.specs.Shown.{shown_name}
+use Rattle.host_storage.specs.Shown.{shown_name}
 use Rattle.out_messages.specs.StateText.{label_text, contents_text, state_text}
 use Rattle.cmd_check.specs.CheckText.{image_line}
 use Rattle.out_messages.proofs.Joins.{join4, join5}

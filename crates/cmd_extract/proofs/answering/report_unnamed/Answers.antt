@@ -1,8 +1,8 @@
 use Rattle.std.proofs.Common.{◌≡◌, ℕ, List, ◌++◌, ap, ◌∙◌, subst, Vec, Global}
 use Rattle.std.specs.Prelude.{IfOk, codes, string_bytes}
 use Rattle.out_messages.specs.FaultLines.{unwritten_line}
-use Rattle.program_batch.specs.Reasons.{with_known_reason}
-use Rattle.program_batch.specs.declared.report.Verdict.{Verdict}
+use Rattle.program_console.specs.Reasons.{with_known_reason}
+use Rattle.program_surveys.specs.declared.report.Verdict.{Verdict}
 use Rattle.cmd_extract.specs.Setup.{TaskView}
 use Rattle.cmd_extract.specs.Work.{answer_in}
 use Rattle.cmd_extract.specs.FilesNow.{progress_of_files}

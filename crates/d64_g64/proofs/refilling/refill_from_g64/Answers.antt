@@ -1,23 +1,25 @@
-use Rattle.std.proofs.Common.{◌≡◌, Bool, Some, None, length, sym, ap, ◌∙◌}
-use Rattle.std.specs.Prelude.{if◌then◌else◌}
+use Rattle.std.proofs.Common.{true, false, Option, Some, None, length, ap, ◌∙◌}
+use Rattle.std.specs.Prelude.{if◌then◌else◌, is_some}
+use Rattle.d64_survey.specs.Dump.{DumpView}
 use Rattle.d64_g64.specs.File.{is_g64}
 use Rattle.d64_g64.specs.Dump.{g64_dump}
-use Rattle.d64_g64.proofs.Dumps.{same_dump, some_length}
-use Rattle.d64_g64.proofs.GoodDumps.{is_dump}
-use Rattle.d64_g64.proofs.Refilled.{on_ok, not_bad}
+use Rattle.d64_g64.specs.DumpOf.{dump_of_g64}
+use Rattle.d64_g64.proofs.Dumps.{by_g64}
+use Rattle.d64_g64.proofs.Refilled.{same_fault, same_filling}
 use Rattle.d64_g64.proofs.refilling.refill_from_g64.Goals as goal
 
-pub returns-in-Ok-clause-refused : goal.returns-in-Ok-clause-refused
-returns-in-Ok-clause-refused c =
+pub returns-then-begins_as_g64-clause-refused : goal.returns-then-begins_as_g64-clause-refused
+returns-then-begins_as_g64-clause-refused c =
     let file = c.args.file.now in
-    let bytes = c.deref.result.now in
-    let some = some_length (g64_dump file) bytes (is_dump file) (sym (c.deref.ensures.value ∙ c.in-Ok.ensures.dump)) in
-    c.refill.ensures.refused
-    ∙ ap (λ (b : Bool). if b then None else Some (length bytes)) some
-    ∙ sym (ap (λ (b : Bool). if b then None else Some (length file)) (not_bad (is_g64 file) c.in-Ok.ensures.refused))
+    c.refill_from_bits.ensures.refused ∙ same_fault (is_g64 file) (g64_dump file) (dump_of_g64 file) (length file) (by_g64 file true c.if-begins_as_g64.ensures)
 
-pub returns-in-Ok-clause-filled : goal.returns-in-Ok-clause-filled
-returns-in-Ok-clause-filled c =
+pub returns-then-begins_as_g64-clause-filled : goal.returns-then-begins_as_g64-clause-filled
+returns-then-begins_as_g64-clause-filled c =
     let file = c.args.file.now in
-    on_ok c.refill.result _ _ (c.refill.new.self ≡ g64_dump file) c.refill.ensures.filled c.refill.ensures.dump
-    (λ kept is. same_dump c.refill.new.self (g64_dump file) is (is_dump file) (kept ∙ c.deref.ensures.value ∙ c.in-Ok.ensures.dump))
+    same_filling c.refill_from_bits.result (is_g64 file) c.refill_from_bits.new.dump (g64_dump file) (dump_of_g64 file) (length file) c.refill_from_bits.ensures.refused c.refill_from_bits.ensures.filled
+    (by_g64 file true c.if-begins_as_g64.ensures)
+
+pub returns-else-begins_as_g64-clause-refused : goal.returns-else-begins_as_g64-clause-refused
+returns-else-begins_as_g64-clause-refused c =
+    let file = c.args.file.now in
+    ap (λ (o : Option DumpView). if is_some o then None else Some (length file)) (by_g64 file false c.if-begins_as_g64.ensures)

@@ -1,5 +1,5 @@
 use Rattle.std.proofs.Common.{◌≡◌, map, string_bytes, take}
-use Rattle.host_names.specs.Shown.{shown_name}
+use Rattle.host_storage.specs.Shown.{shown_name}
 use Rattle.d64_shell.proofs.asking.shown_texts.Given as goal
 
 abbrev pub invariant-loop-word : goal.invariant-loop-word

@@ -1,5 +1,5 @@
 use Rattle.std.proofs.Common.{rules, false}
-use Rattle.script_text.specs.Input.{reading_of}
+use Rattle.host_storage.specs.Input.{reading_of}
 use Rattle.d64_shell.proofs.ProgramRuns.{Ended-streams, outside_is}
 use Rattle.d64_shell.proofs.entry.program.Goals as goal
 

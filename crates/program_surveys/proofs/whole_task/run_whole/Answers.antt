@@ -1,6 +1,6 @@
 use Rattle.std.proofs.Common.{ap, refl}
-use Rattle.program_batch.specs.Runs.{run_state_at}
-use Rattle.program_batch.specs.declared.report.Verdict.{Verdict}
+use Rattle.program_surveys.specs.Runs.{run_state_at}
+use Rattle.program_surveys.specs.declared.report.Verdict.{Verdict}
 use Rattle.program_surveys.proofs.RunEnds.{run_ended}
 use Rattle.program_surveys.proofs.whole_task.run_whole.Goals as goal
 

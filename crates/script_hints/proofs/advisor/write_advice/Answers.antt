@@ -3,7 +3,7 @@ use Rattle.std.specs.Prelude.{flat_map}
 use Rattle.std.specs.Io.KnownBytes.{Appends}
 use Rattle.std.proofs.KnownBytes.{Appends-trans}
 use Rattle.std.proofs.lemmas.List.{at_drop_more, drop_all}
-use Rattle.script_text.specs.Output.{AppendsPart, Writes, account_of}
+use Rattle.host_storage.specs.Output.{AppendsPart, Writes, account_of}
 use Rattle.script_hints.specs.Advice.{piece_of, pieces, said_piece}
 use Rattle.script_hints.specs.declared.advice.Piece.{Piece as CodePiece}
 use Rattle.script_hints.proofs.Writings.{AppendsPart-after, AppendsPart-more, Writes-after, whole_of}

@@ -1,5 +1,5 @@
 use Rattle.std.proofs.Common.{◌≡◌, ℕ, ◌<◌, ◌≤◌, List, [], take, drop, length, min, ap, sym, subst, take-append-drop, take_all, arith}
-use Rattle.script_text.specs.Input.{input_limit}
+use Rattle.host_storage.specs.Input.{input_limit}
 use Rattle.script_text.specs.Parts.{HasCome, Lacks, parts_of}
 use Rattle.script_text.proofs.PartSteps.{HasCome-none, ends_at_end}
 use Rattle.script_text.proofs.parts.cut_text.Goals as goal

@@ -2,7 +2,7 @@ use Rattle.std.proofs.Common.{[], ◌++◌, take, drop, sym, subst, append-nil, 
 use Rattle.std.proofs.KnownBytes.{Consumes-kept, Consumes-trans}
 use Rattle.std.proofs.lemmas.List.{length-append, length-take-le}
 use Rattle.std.specs.Io.KnownBytes.{Consumes}
-use Rattle.script_text.specs.Input.{input_limit}
+use Rattle.host_storage.specs.Input.{input_limit}
 use Rattle.script_text.specs.Parts.{Lacks}
 use Rattle.script_text.proofs.PartSteps.{HasCome-same, ends_at_end, ends_before_read}
 use Rattle.script_text.proofs.InputReads.{Consumes-fits, Consumes-none, Consumes-read, CutsShort-by, Ends-after, Ends-whole, length-read, take_limit}

@@ -1,6 +1,6 @@
 use Rattle.std.proofs.Common.{◌≡◌, ◌≤◌, ◌+◌, false, ℕ, List, length}
 use Rattle.std.specs.Io.KnownBytes.{Consumes}
-use Rattle.script_text.specs.Input.{input_limit}
+use Rattle.host_storage.specs.Input.{input_limit}
 use Rattle.script_text.specs.Parts.{HasCome}
 use Rattle.script_text.proofs.parts.read_parts.Given as goal
 

@@ -2,7 +2,7 @@
 use Rattle.std.proofs.Common.{◌≡◌, ℕ, ◌+◌, ◌-◌, ◌≤◌, min, Option, List, ◌++◌, length, take, sym, ap, ◌∙◌, subst, arith, rules, append-nil}
 use Rattle.std.specs.Io.KnownBytes.{Consumes}
 use Rattle.std.proofs.KnownBytes.{Consumes-trans, Consumes-kept}
-use Rattle.script_text.specs.Input.{input_limit}
+use Rattle.host_storage.specs.Input.{input_limit}
 use Rattle.script_text.proofs.ScriptReads.{IsReadFrom-to_its_end, IsReadFrom-cut_short, IsReadFrom-filled}
 use Rattle.script_text.proofs.script.read_input.Goals as goal
 

@@ -1,7 +1,7 @@
 -- The bytes so far are all that the reader lost, and each turn has made one read.
 use Rattle.std.proofs.Common.{◌≡◌, ◌≤◌, false, vec_len}
 use Rattle.std.specs.Io.KnownBytes.{Consumes}
-use Rattle.script_text.specs.Input.{input_limit}
+use Rattle.host_storage.specs.Input.{input_limit}
 use Rattle.script_text.proofs.script.read_input.Given as goal
 
 abbrev pub invariant-loop : goal.invariant-loop

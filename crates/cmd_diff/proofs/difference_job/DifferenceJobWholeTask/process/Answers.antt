@@ -1,5 +1,5 @@
 use Rattle.std.proofs.Common.{rules, ◌≡◌, ◌∙◌, ap}
-use Rattle.program_batch.specs.Answers.{Answer}
+use Rattle.program_surveys.specs.Answers.{Answer}
 use Rattle.cmd_diff.specs.Differences.{difference_rule}
 use Rattle.cmd_diff.proofs.ComparisonRuns.{compared, same_answer, wants_memory, was_cut}
 use Rattle.cmd_diff.proofs.difference_job.DifferenceJobWholeTask.process.Goals as goal

@@ -1,6 +1,6 @@
 use Rattle.std.proofs.Common.{◌≡◌, rules, List, ℕ, Bool, cond, sym, ap, ◌∙◌, subst}
 use Rattle.std.specs.Prelude.{IfOk}
-use Rattle.program_batch.specs.declared.report.Verdict.{Verdict}
+use Rattle.program_surveys.specs.declared.report.Verdict.{Verdict}
 use Rattle.cmd_extract.specs.Setup.{TaskView, list_in}
 use Rattle.cmd_extract.specs.Work.{Work, Done, EndsWork, answer_in}
 use Rattle.cmd_extract.specs.Unpacking.{present_answer, skipped_answer, present_work}

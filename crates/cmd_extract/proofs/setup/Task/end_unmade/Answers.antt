@@ -1,6 +1,6 @@
 use Rattle.std.proofs.Common.{◌≡◌, List, ℕ, ap, ◌∙◌, subst}
 use Rattle.std.specs.Prelude.{IfOk}
-use Rattle.program_batch.specs.declared.report.Verdict.{Verdict}
+use Rattle.program_surveys.specs.declared.report.Verdict.{Verdict}
 use Rattle.cmd_extract.specs.Setup.{ExtractSetupView, TaskView}
 use Rattle.cmd_extract.specs.Work.{Done, answer_in}
 use Rattle.cmd_extract.specs.Unpacking.{unmade_answer, unmade_work}

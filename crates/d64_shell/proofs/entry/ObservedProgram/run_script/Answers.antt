@@ -1,5 +1,5 @@
 use Rattle.std.proofs.Common.{ap, inr}
-use Rattle.script_text.specs.Input.{reading_of}
+use Rattle.host_storage.specs.Input.{reading_of}
 use Rattle.program_console.specs.Outside.{account_at, outside_at}
 use Rattle.cmd_shell.specs.Scripts.{beginning_in, options_in, source_in}
 use Rattle.cmd_shell.proofs.ShellRuns.{due_reported, stopped_reported}

@@ -1,5 +1,5 @@
 use Rattle.std.proofs.Common.{◌≡◌, rules}
-use Rattle.host_names.specs.Shown.{shown_name}
+use Rattle.host_storage.specs.Shown.{shown_name}
 use Rattle.out_json_csv.proofs.HostFields.{host_field-utf8, host_field-other}
 use Rattle.out_json_csv.proofs.csv_row.CsvRow.push_host_name.Goals as goal
 

@@ -1,5 +1,0 @@
-pub mod RunSteps
-pub mod ListNames
-pub mod ListSteps
-pub mod ListStreams
-pub mod Serving

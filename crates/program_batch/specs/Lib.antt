@@ -1,6 +1,0 @@
-pub mod Reasons
-pub mod Names
-pub mod Answers
-pub mod Asked
-pub mod Runs
-pub mod Lists

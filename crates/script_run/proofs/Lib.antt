@@ -1,6 +1,0 @@
-pub mod Transcripts
-pub mod ScriptRuns
-pub mod ScriptHistories
-pub mod ScriptLines
-pub mod LinesSoFar
-pub mod RunEnds

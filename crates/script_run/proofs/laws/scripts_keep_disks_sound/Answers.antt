@@ -1,5 +1,0 @@
-use Rattle.script_run.proofs.ScriptHistories.{scripts-keep_disks_sound}
-use Rattle.script_run.proofs.laws.scripts_keep_disks_sound.Goals as goal
-
-pub returns : goal.returns
-returns c = scripts-keep_disks_sound

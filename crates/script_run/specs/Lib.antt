@@ -1,4 +1,0 @@
-pub mod Transcript
-pub mod ScriptLaws
-pub mod Runner
-pub mod LineByLine
