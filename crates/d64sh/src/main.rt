@@ -80,18 +80,15 @@ fn run_program<'a, O: Write + Drop, E: Write>(
         OutputStream::new(errors),
     );
     let mut host = WatchedHost::new(line, FolderHost::new(rt));
-    if !may_explain(rt, words) {
-        return Ok(run_unadvised(rt.alloc(), words, &mut console, &mut host));
-    }
     let hints = WithinLimit::new(rt, limit, StandardStream::Error, rt.stderr());
     let mut hints = Retrying(hints);
     let advisor_host = FolderHost::new(rt);
     Ok(run_advised(rt, &mut hints, advisor_host, words, &mut console, &mut host))
 }
 
-/// Runs the program with these arguments on a console and a host. An advisor has a writer to
-/// standard error and a host of its own. For any types of these two the proof takes a third of what
-/// it takes for those of the process.
+/// Runs the program with these arguments on a console and a host, with an advisor if that may have
+/// something to explain. It has a writer to standard error and a host of its own. For any types of
+/// these two the proof takes a third of what it takes for those of the process.
 fn run_advised<A: Write, K: Host + Drop, R: Read, W: Write, F: Write, H: Host>(
     rt: &HostRuntime,
     hints: &mut A,
@@ -102,6 +99,9 @@ fn run_advised<A: Write, K: Host + Drop, R: Read, W: Write, F: Write, H: Host>(
 ) -> u8
     requires fresh { IsFresh console.old }
 {
+    if !may_explain(rt, words) {
+        return run_unadvised(rt.alloc(), words, console, host);
+    }
     let is_terminal = rt.stdin().is_terminal() && rt.stderr().is_terminal();
     let mut advisor = Advisor::new(rt.alloc(), is_terminal, hints, advisor_host);
     if rt.stderr().is_terminal() {
