@@ -1,5 +1,7 @@
 //! `d64sh check`: what it prints of a file as text, as JSON and as CSV, and when something is
 //! wrong.
+//!
+//! `check_disks` does all of it, from the request of the arguments to the exit status.
 #![tactic(auto)]
 
 mod check_printer;

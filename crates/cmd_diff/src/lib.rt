@@ -1,5 +1,7 @@
 //! `d64sh diff`: what changed from one dump to another, in label, files, blocks and read codes, as
 //! text and as JSON.
+//!
+//! `compare_files` does all of it, from the request of the arguments to the exit status.
 #![tactic(auto)]
 
 mod blocks;

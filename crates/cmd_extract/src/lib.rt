@@ -1,5 +1,7 @@
 //! `d64sh extract`: the folder of an image on the host, its files and the list of them, in which
 //! order they are made, and what is printed of them.
+//!
+//! `extract_files` does all of it, from the request of the arguments to the exit status.
 #![tactic(auto)]
 
 mod answering;

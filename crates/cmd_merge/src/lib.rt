@@ -1,5 +1,7 @@
 //! `d64sh merge`: the dumps that are read, the file that is made of them, and what is printed of
 //! its blocks, as text and as JSON.
+//!
+//! `merge_files` does all of it, from the request of the arguments to the exit status.
 #![tactic(auto)]
 
 mod finishing;
