@@ -1,9 +1,8 @@
 //! The map of a disk as text.
 ghost use Rattle.std.specs.Prelude.{◌≡◌, ◌++◌, OnOk};
-ghost use Rattle.d64_image.specs.Block.{IsTrackNumber};
 ghost use Rattle.cmd_map.specs.MapText.{map_head_line, column_lines, padded_number, track_row, track_line, track_lines, legend_line, map_text as map_text_of};
 
-use d64_image::BlockNo;
+use d64_image::{BlockNo, TrackNo};
 use d64_survey::Inspection;
 use host_storage::push_shown;
 use out_messages::{push_label, push_number, push_state};
@@ -35,20 +34,21 @@ fn push_head(out: &mut Vec<u8>, name: &[u8], inspection: &Inspection) -> Result<
 
 /// Appends a track's number, right-aligned to four characters.
 #[tactic(auto, unfolding(crate::specs::MapText::padded_number))]
-fn push_padded(out: &mut Vec<u8>, track: u8) -> Result<(), AllocError>
+fn push_padded(out: &mut Vec<u8>, track: TrackNo) -> Result<(), AllocError>
     ensures { OnOk result (out.new.items ≡ out.old.items ++ padded_number track) }
 {
-    out.extend_from_slice(if track < 10 { b"   " } else { b"  " })?;
-    push_number(out, usize::from(track))
+    let number = track.number();
+    out.extend_from_slice(if number < 10 { b"   " } else { b"  " })?;
+    push_number(out, usize::from(number))
 }
 
 /// Appends the characters of a track's blocks.
-fn push_row(out: &mut Vec<u8>, inspection: &Inspection, track: u8) -> Result<(), AllocError>
-    requires { IsTrackNumber track }
+fn push_row(out: &mut Vec<u8>, inspection: &Inspection, track: TrackNo) -> Result<(), AllocError>
     ensures { OnOk result (out.new.items ≡ out.old.items ++ track_row inspection.now track) }
 {
+    let number = track.number();
     for sector in 0..SECTORS {
-        match BlockNo::of(track, sector) {
+        match BlockNo::of(number, sector) {
             Some(block) => out.extend_from_slice(state_of(inspection, block).mark())?,
             None => {}
         }
@@ -58,8 +58,7 @@ fn push_row(out: &mut Vec<u8>, inspection: &Inspection, track: u8) -> Result<(),
 
 /// Appends the line of a track.
 #[tactic(auto, unfolding(crate::specs::MapText::track_line))]
-fn push_track(out: &mut Vec<u8>, inspection: &Inspection, track: u8) -> Result<(), AllocError>
-    requires { IsTrackNumber track }
+fn push_track(out: &mut Vec<u8>, inspection: &Inspection, track: TrackNo) -> Result<(), AllocError>
     ensures { OnOk result (out.new.items ≡ out.old.items ++ track_line inspection.now track) }
 {
     push_padded(out, track)?;
@@ -72,7 +71,7 @@ fn push_track(out: &mut Vec<u8>, inspection: &Inspection, track: u8) -> Result<(
 fn push_tracks(out: &mut Vec<u8>, inspection: &Inspection) -> Result<(), AllocError>
     ensures { OnOk result (out.new.items ≡ out.old.items ++ track_lines inspection.now) }
 {
-    for track in 1..inspection.image().tracks() + 1 {
+    for track in inspection.image().each_track() {
         push_track(out, inspection, track)?;
     }
     Ok(())

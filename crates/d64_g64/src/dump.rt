@@ -13,11 +13,8 @@ use crate::fault::G64Fault;
 use crate::file::is_g64;
 use crate::header::{Id, disk_id};
 use crate::track::{TrackLists, read_track};
-use d64_image::{BLOCK_BYTES, BLOCKS, BlockNo};
+use d64_image::{BLOCK_BYTES, BLOCKS, BlockNo, TrackNo};
 use std::alloc::{AllocError, Global};
-
-/// The track after the last one that a dump can have.
-const END_OF_TRACKS: u8 = 41;
 
 /// How many sectors a track has at most.
 const MOST_SECTORS: u8 = 21;
@@ -43,7 +40,8 @@ pub(crate) fn read_id(file: &[u8], lists: &mut TrackLists) -> Result<Option<Id>,
     requires { is_g64 file.now ≡ true }
     ensures { IfOk result (λ id. id ≡ id_in file.now) }
 {
-    let track = read_track(lists, file, DIRECTORY_TRACK)?;
+    let directory = TrackNo::of(DIRECTORY_TRACK).unwrap();
+    let track = read_track(lists, file, directory)?;
     Ok(disk_id(&track))
 }
 
@@ -61,24 +59,24 @@ fn push_block(blocks: &mut Blocks, code: u8, block: &[u8; BLOCK_BYTES]) -> Resul
 fn add_track(
     blocks: &mut Blocks,
     file: &[u8],
-    number: u8,
+    track: TrackNo,
     id: Option<Id>,
     lists: &mut TrackLists,
 ) -> Result<(), AllocError>
     requires file { is_g64 file.now ≡ true }
-    requires number { (1 ≤ number) × (number < 41) }
     requires id { id ≡ id_in file.now }
-    requires codes { blocks.old.codes.items ≡ first_codes file.now (first_block number) }
-    requires bytes { blocks.old.bytes.items ≡ image_bytes (first_blocks file.now (first_block number)) }
-    ensures codes { OnOk result (blocks.new.codes.items ≡ first_codes file.now (first_block (number + 1))) }
-    ensures bytes { OnOk result (blocks.new.bytes.items ≡ image_bytes (first_blocks file.now (first_block (number + 1)))) }
+    requires codes { blocks.old.codes.items ≡ first_codes file.now (first_block track) }
+    requires bytes { blocks.old.bytes.items ≡ image_bytes (first_blocks file.now (first_block track)) }
+    ensures codes { OnOk result (blocks.new.codes.items ≡ first_codes file.now (first_block (track + 1))) }
+    ensures bytes { OnOk result (blocks.new.bytes.items ≡ image_bytes (first_blocks file.now (first_block (track + 1)))) }
 {
-    let track = read_track(lists, file, number)?;
+    let number = track.number();
+    let bits = read_track(lists, file, track)?;
     let mut block = [0; BLOCK_BYTES];
     for sector in 0..MOST_SECTORS {
         match BlockNo::of(number, sector) {
             Some(_) => {
-                let code = read_block(&track, id, number, sector, &mut block);
+                let code = read_block(&bits, id, number, sector, &mut block);
                 push_block(blocks, code, &block)?;
             }
             None => {}
@@ -96,8 +94,8 @@ fn read_tracks(blocks: &mut Blocks, file: &[u8], lists: &mut TrackLists) -> Resu
     ensures bytes { OnOk result (blocks.new.bytes.items ≡ image_bytes (first_blocks file.now 768)) }
 {
     let id = read_id(file, lists)?;
-    for number in 1..END_OF_TRACKS {
-        add_track(blocks, file, number, id, lists)?;
+    for track in TrackNo::all() {
+        add_track(blocks, file, track, id, lists)?;
     }
     Ok(())
 }

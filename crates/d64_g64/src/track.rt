@@ -5,6 +5,7 @@ ghost use Rattle.d64_g64.specs.Starts.{starts_on, next_of};
 
 use crate::file::copy_entry;
 use crate::start::{Start, list_starts};
+use d64_image::TrackNo;
 use std::alloc::AllocError;
 use std::marker::Model;
 
@@ -56,13 +57,12 @@ pub(crate) fn read_entry<'a>(
 pub(crate) fn read_track<'a>(
     lists: &'a mut TrackLists,
     file: &[u8],
-    number: u8,
+    track: TrackNo,
 ) -> Result<Track<'a>, AllocError>
-    requires file { is_g64 file.now ≡ true }
-    requires number { (1 ≤ number) × (number < 41) }
-    ensures { IfOk result (λ track. track ≡ track_of file.now number) }
+    requires { is_g64 file.now ≡ true }
+    ensures { IfOk result (λ bytes. bytes ≡ track_of file.now track) }
 {
-    read_entry(lists, file, 2 * number - 2)
+    read_entry(lists, file, 2 * track.number() - 2)
 }
 
 /// How many starts a track has.

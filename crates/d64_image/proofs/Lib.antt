@@ -1,6 +1,8 @@
+pub mod Ranges
 pub mod Zones
 pub mod Sizes
 pub mod Pairs
+pub mod TracksInTurn
 pub mod Chunks
 pub mod Sets
 pub mod Windows

@@ -5,6 +5,7 @@ ghost use Rattle.std.specs.List.{range_with_len};
 ghost use Rattle.d64_image.specs.Block.{pair_at, block_of};
 ghost use Rattle.d64_image.specs.declared.block.TheConstants.{BLOCKS};
 
+use crate::track::{TRACKS, TrackNo};
 use std::marker::Model;
 
 /// How many blocks an image has at most: those of 40 tracks.
@@ -49,9 +50,6 @@ const TRACK_STARTS: [u16; 42] = [
     395, 414, 433, 452, 471, 490, 508, 526, 544, 562, 580, 598, 615, 632, 649, 666, 683, 700, 717,
     734, 751, 768,
 ];
-
-/// How many tracks an image has at most.
-pub(crate) const TRACKS: u8 = 40;
 
 impl Zone {
     ghost use Rattle.std.specs.Prelude.{◌≡◌, ◌+◌, ◌-◌, ◌/◌, ◌<◌, ◌≤◌};
@@ -205,27 +203,33 @@ impl BlockNo {
     {}
 
     /// The block's track and its sector on that track.
-    fn pair(self) -> (u8, u8)
+    fn pair(self) -> (TrackNo, u8)
         ensures pair { result ≡ pair_at self }
-        ensures track { (1 ≤ result.0) × (result.0 < 41) }
         ensures sector { result.1 < 21 }
     {
         let zone = Zone::of_block(self.index);
         let blocks_before = self.index - zone.first_block;
         let sectors = u16::from(zone.sectors);
         (
-            zone.first_track + (blocks_before / sectors) as u8,
+            TrackNo::new(zone.first_track + (blocks_before / sectors) as u8),
             (blocks_before % sectors) as u8,
         )
     }
 
-    /// The block's track, from 1 to 40.
+    /// The block's track.
+    pub fn track_no(self) -> TrackNo
+        ensures { result ≡ (pair_at self).0 }
+    {
+        self.pair().0
+    }
+
+    /// The number of the block's track, from 1 to 40.
     pub fn track(self) -> u8
         ensures pair { result ≡ (pair_at self).0 }
         ensures from_one { 1 ≤ result }
         ensures within { result < 41 }
     {
-        self.pair().0
+        self.track_no().number()
     }
 
     /// The block's sector on its track, from 0 to 20 at most.

@@ -6,8 +6,9 @@ ghost use Rattle.std.specs.Cmp.Lexicographic.{pointwise};
 ghost use Rattle.d64_image.specs.Image.{IsBlock, IsImage, IsSize, blocks_of, bytes_of, is_image_length, sector_at, tracks_of};
 ghost use Rattle.d64_image.specs.ImageFault.{wrong_length};
 
-use crate::block::{BLOCKS, BlockNo, Blocks, TRACKS};
+use crate::block::{BLOCKS, BlockNo, Blocks};
 use crate::block_bytes::same_bytes;
+use crate::track::{TRACKS, Tracks};
 use std::alloc::{AllocError, AllocFailed, Global};
 use std::marker::Model;
 use thiserror::Error;
@@ -192,6 +193,14 @@ impl Image {
         } else {
             FEWER_TRACKS
         }
+    }
+
+    /// The tracks that the image has, ascending.
+    pub fn each_track(&self) -> Tracks
+        ensures value { result ≡ range_with_len 1 (tracks_of (length self.now)) }
+        ensures size { IsSize (length self.now) }
+    {
+        Tracks::up_to(self.tracks())
     }
 
     /// Whether the image has a block. Each image has the blocks of tracks 1 to 35, and one of 40

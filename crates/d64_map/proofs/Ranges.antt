@@ -1,5 +1,5 @@
 -- sums, counts and filters along a range that grows by one
-use Rattle.std.proofs.Common.{◌≡◌, ℕ, zero, suc, ◌+◌, ◌-◌, ◌≤◌, ◌&&◌, Bool, true, false, cond, leb, ltb, nat_eq, List, [], ◌∷◌, ◌++◌, refl, sym, ap, ◌∙◌, inl, inr, arith}
+use Rattle.std.proofs.Common.{◌≡◌, ℕ, zero, suc, ◌+◌, ◌&&◌, Bool, true, false, cond, leb, ltb, nat_eq, List, [], ◌∷◌, ◌++◌, refl, sym, ap, ◌∙◌, inl, inr, arith}
 use Rattle.std.specs.List.{range_with_len, sum_by, count_by, filter, list_any}
 use Rattle.std.specs.Ordering.{nat_cmp}
 use Rattle.std.specs.FinSet as set
@@ -86,20 +86,13 @@ pub contains-filtered : (p : ℕ → Bool) (xs : List ℕ) (q : ℕ)
     → set.contains (set.from_list {R = nat_cmp} (filter p xs)) q ≡ (list_any (λ y. nat_eq y q) xs && p q)
 contains-filtered p xs q = contains-from_list_nat (filter p xs) q ∙ any-filter p q xs
 
--- one step of a sum over what passes, along the numbers from 1
-pub passed_more : (f : ℕ → ℕ) (p : ℕ → Bool) (k c d : ℕ) → 1 ≤ k → c ≡ sum_by f (filter p (range_with_len 1 (k - 1))) → p k ≡ true → d ≡ c + f k
-    → d ≡ sum_by f (filter p (range_with_len 1 (k + 1 - 1)))
-passed_more f p k c d one summed passes more =
-    let e : k + 1 - 1 ≡ k - 1 + 1 = omega arith in
-    let k_is : 1 + (k - 1) ≡ k = omega arith in
-    let s = ap (sum_by f) (filter_more p 1 (k - 1) (ap p k_is ∙ passes)) ∙ sum_by_push f (filter p (range_with_len 1 (k - 1))) (1 + (k - 1)) in
-    let t : d ≡ sum_by f (filter p (range_with_len 1 (k - 1))) + f (1 + (k - 1)) = more ∙ ap (λ (x : ℕ). x + f k) summed ∙ ap (λ (x : ℕ). sum_by f (filter p (range_with_len 1 (k - 1))) + f x) (sym k_is) in
-    t ∙ sym s ∙ ap (λ (n : ℕ). sum_by f (filter p (range_with_len 1 n))) (sym e)
+-- one step of a sum over what passes
+pub passed_more : (f : ℕ → ℕ) (p : ℕ → Bool) (done : List ℕ) (k c d : ℕ) → c ≡ sum_by f (filter p done) → p k ≡ true → d ≡ c + f k → d ≡ sum_by f (filter p (done ++ k ∷ []))
+passed_more f p done k c d summed passes more =
+    more ∙ ap (λ (x : ℕ). x + f k) summed ∙ sym (sum_by_push f (filter p done) k)
+    ∙ ap (sum_by f) (sym (filter_push p done k ∙ ap (λ (b : Bool). filter p done ++ cond b (k ∷ []) []) passes))
 
-pub passed_same : (f : ℕ → ℕ) (p : ℕ → Bool) (k c d : ℕ) → 1 ≤ k → c ≡ sum_by f (filter p (range_with_len 1 (k - 1))) → p k ≡ false → d ≡ c
-    → d ≡ sum_by f (filter p (range_with_len 1 (k + 1 - 1)))
-passed_same f p k c d one summed fails same =
-    let e : k + 1 - 1 ≡ k - 1 + 1 = omega arith in
-    let k_is : 1 + (k - 1) ≡ k = omega arith in
-    let s = ap (sum_by f) (filter_same p 1 (k - 1) (ap p k_is ∙ fails)) in
-    same ∙ summed ∙ sym s ∙ ap (λ (n : ℕ). sum_by f (filter p (range_with_len 1 n))) (sym e)
+pub passed_same : (f : ℕ → ℕ) (p : ℕ → Bool) (done : List ℕ) (k c d : ℕ) → c ≡ sum_by f (filter p done) → p k ≡ false → d ≡ c → d ≡ sum_by f (filter p (done ++ k ∷ []))
+passed_same f p done k c d summed fails same =
+    same ∙ summed
+    ∙ ap (sum_by f) (sym (filter_push p done k ∙ ap (λ (b : Bool). filter p done ++ cond b (k ∷ []) []) fails ∙ append-nil (filter p done)))

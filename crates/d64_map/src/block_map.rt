@@ -2,7 +2,7 @@
 ghost use Rattle.std.specs.Prelude.{◌≡◌, ℕ, ◌+◌, ◌/◌, ◌<◌, ◌≤◌, ◌==◌, ◌↔◌, true, false, length, slice_index, IsTrue, OnOk};
 ghost use Rattle.std.specs.Int.{bit_at};
 ghost use Rattle.std.specs.FinSet as set;
-ghost use Rattle.d64_image.specs.Block.{IsTrackNumber, first_block};
+ghost use Rattle.d64_image.specs.Block.{first_block};
 ghost use Rattle.d64_image.specs.BlockSet.{MembersAreBelow};
 ghost use Rattle.d64_image.specs.Image.{HasTrack, IsBlock, IsSize, sector_at};
 ghost use Rattle.d64_image.specs.Patch.{StillRestores};
@@ -10,7 +10,7 @@ ghost use Rattle.d64_map.specs.Track.{members_on};
 ghost use Rattle.d64_map.specs.Map.{map_block, map_entry_place, IsOfTrack, count_of, bit_in, is_free, free_below, free_blocks, NoneIsFreeBetween, blocks_free, CountsFit, map_byte, with_map};
 
 use crate::tracks::{DIRECTORY_TRACK, first_block, member_bits, sector_mask};
-use d64_image::{BLOCK_BYTES, BlockNo, BlockSet, Image, Patch};
+use d64_image::{BLOCK_BYTES, BlockNo, BlockSet, Image, Patch, TrackNo};
 use std::alloc::AllocError;
 
 /// The first track whose entry in the map isn't right after that of the track before it.
@@ -37,13 +37,13 @@ fn map_of(image: &Image) -> &[u8; BLOCK_BYTES]
 }
 
 /// Where a track's entry of four bytes begins in the map's block.
-fn entry_of(track: u8) -> usize
-    requires { track < 41 }
+fn entry_of(track: TrackNo) -> usize
     ensures place { result ≡ map_entry_place track }
     ensures within { result ≤ 208 }
 {
-    let place = 4 * usize::from(track);
-    if track < FIRST_TRACK_BEYOND {
+    let number = track.number();
+    let place = 4 * usize::from(number);
+    if number < FIRST_TRACK_BEYOND {
         place
     } else {
         place + BEYOND
@@ -51,8 +51,7 @@ fn entry_of(track: u8) -> usize
 }
 
 /// The bits of a track's sectors in the map's block: bit s is that of sector s.
-fn bits_on(map: &[u8; BLOCK_BYTES], track: u8) -> u32
-    requires { track < 41 }
+fn bits_on(map: &[u8; BLOCK_BYTES], track: TrackNo) -> u32
     ensures { (sector : ℕ) → sector < 24 → bit_at result sector ≡ bit_in map.now track sector }
 {
     let entry = entry_of(track);
@@ -73,13 +72,12 @@ pub fn is_free(image: &Image, block: BlockNo) -> bool
     ensures bit { result ≡ is_free image.now block }
     ensures member { result ≡ set.contains (free_blocks image.now) block }
 {
-    let bits = bits_on(map_of(image), block.track());
+    let bits = bits_on(map_of(image), block.track_no());
     marks_free(bits, block.sector())
 }
 
-/// The count byte of a track of the image, which counts from 1: how many of its sectors are free,
-/// as the map says.
-pub fn free_count(image: &Image, track: u8) -> u8
+/// The count byte of a track of the image: how many of its sectors are free, as the map says.
+pub fn free_count(image: &Image, track: TrackNo) -> u8
     requires track { HasTrack image.now track }
     ensures count { result ≡ count_of image.now track }
 {
@@ -91,8 +89,8 @@ pub fn blocks_free(image: &Image) -> u32
     ensures { result ≡ blocks_free image.now }
 {
     let mut sum = 0;
-    for track in 1..image.tracks() + 1 {
-        if track != DIRECTORY_TRACK {
+    for track in image.each_track() {
+        if track.number() != DIRECTORY_TRACK {
             sum += u32::from(free_count(image, track));
         }
     }
@@ -100,10 +98,9 @@ pub fn blocks_free(image: &Image) -> u32
 }
 
 /// Adds the free blocks of a track to those of the tracks before it.
-fn add_free_on(free: &mut BlockSet, image: &Image, track: u8)
-    requires track { IsTrackNumber track }
-    requires before { free.old ≡ free_below image.now (first_block track) }
-    ensures added { free.new ≡ free_below image.now (first_block (track + 1)) }
+fn add_free_on(free: &mut BlockSet, image: &Image, track: TrackNo)
+    requires { free.old ≡ free_below image.now (first_block track) }
+    ensures { free.new ≡ free_below image.now (first_block (track + 1)) }
 {
     let bits = bits_on(map_of(image), track) & sector_mask(track);
     free.add_bits(first_block(track), bits);
@@ -114,14 +111,14 @@ pub fn free_set(image: &Image) -> BlockSet
     ensures { result ≡ free_blocks image.now }
 {
     let mut free = BlockSet::empty();
-    for track in 1..image.tracks() + 1 {
+    for track in image.each_track() {
         add_free_on(&mut free, image, track);
     }
     free
 }
 
 /// Whether the map marks no member among a track's blocks free.
-fn none_is_free_on(image: &Image, blocks: &BlockSet, track: u8) -> bool
+fn none_is_free_on(image: &Image, blocks: &BlockSet, track: TrackNo) -> bool
     requires track { HasTrack image.now track }
     ensures none { IsTrue result ↔ NoneIsFreeBetween image.now blocks.now (first_block track) (first_block (track + 1)) }
 {
@@ -134,7 +131,7 @@ fn none_is_free_on(image: &Image, blocks: &BlockSet, track: u8) -> bool
 pub fn none_is_free(image: &Image, blocks: &BlockSet) -> bool
     ensures { IsTrue result ↔ ((block : ℕ) → set.contains blocks.now block ≡ true → set.contains (free_blocks image.now) block ≡ false) }
 {
-    for track in 1..image.tracks() + 1 {
+    for track in image.each_track() {
         if !none_is_free_on(image, blocks, track) {
             return false;
         }
@@ -142,8 +139,8 @@ pub fn none_is_free(image: &Image, blocks: &BlockSet) -> bool
     true
 }
 
-/// How many blocks of a track, which counts from 1, the map marks free.
-pub fn free_on(image: &Image, track: u8) -> u8
+/// How many blocks of a track of the image the map marks free.
+pub fn free_on(image: &Image, track: TrackNo) -> u8
     requires track { HasTrack image.now track }
     ensures free { result ≡ members_on (free_blocks image.now) track }
 {
@@ -156,7 +153,7 @@ pub fn free_on(image: &Image, track: u8) -> u8
 pub fn counts_fit(image: &Image) -> bool
     ensures { IsTrue result ↔ CountsFit image.now }
 {
-    for track in 1..image.tracks() + 1 {
+    for track in image.each_track() {
         if free_count(image, track) != free_on(image, track) {
             return false;
         }
@@ -165,8 +162,7 @@ pub fn counts_fit(image: &Image) -> bool
 }
 
 /// Writes a track's entry into the map's block: the count of the free blocks, and their bits.
-fn put_entry(map: &mut [u8; BLOCK_BYTES], free: &BlockSet, track: u8)
-    requires track { IsTrackNumber track }
+fn put_entry(map: &mut [u8; BLOCK_BYTES], free: &BlockSet, track: TrackNo)
     ensures entry { (place : ℕ) → IsOfTrack track place → slice_index map.new place ≡ map_byte free.now place }
     ensures others { (place : ℕ) → (IsOfTrack track place → ⊥) → slice_index map.new place ≡ slice_index map.old place }
 {
@@ -190,7 +186,7 @@ pub fn put_map(image: &mut Image, patch: &mut Patch, free: &BlockSet) -> Result<
     ensures back { StillRestores image.old patch.old image.new patch.new }
 {
     let mut map = *map_of(image);
-    for track in 1..image.tracks() + 1 {
+    for track in image.each_track() {
         put_entry(&mut map, free, track);
     }
     patch.write(image, map_block(), &map)

@@ -2,13 +2,13 @@
 ghost use Rattle.std.specs.Prelude.{◌≡◌, ◌+◌, ◌-◌, ◌<◌, ◌≤◌, ◌==◌, ◌&&◌, ◌++◌, find};
 ghost use Rattle.std.specs.List.{range_with_len, flat_map};
 ghost use Rattle.std.specs.FinSet as set;
-ghost use Rattle.d64_image.specs.Block.{IsTrackNumber, sectors_on, first_block};
+ghost use Rattle.d64_image.specs.Block.{sectors_on, first_block};
 ghost use Rattle.d64_map.specs.Track.{blocks_on};
 ghost use Rattle.d64_map.specs.Search.{first_order, sector_after, rotated_list, next_order, dir_order};
 ghost use Rattle.d64_map.specs.Side.{track_at, other_side, reach, tracks_along, tracks_beyond};
 
-use crate::tracks::{DIRECTORY_TRACK, first_block, member_bits, sector_count};
-use d64_image::{BLOCKS, BlockNo, BlockSet};
+use crate::tracks::{DIRECTORY_TRACK, directory_track, first_block, member_bits, sector_count};
+use d64_image::{BLOCKS, BlockNo, BlockSet, TrackNo};
 
 /// How many sectors further on the search for a file's next block begins.
 const FILE_INTERLEAVE: u8 = 10;
@@ -33,16 +33,16 @@ enum Side {
 
 impl Side {
     /// The side of a track other than 18, and the track's distance from 18.
-    fn of(track: u8) -> (Side, u8)
-        requires range { IsTrackNumber track }
-        requires side { track ≡ 18 → ⊥ }
+    fn of(track: TrackNo) -> (Side, u8)
+        requires { track ≡ 18 → ⊥ }
         ensures track { track_at result.0 result.1 ≡ track }
         ensures distance { (1 ≤ result.1) × (result.1 ≤ reach result.0) }
     {
-        if track < DIRECTORY_TRACK {
-            (Side::Lower, DIRECTORY_TRACK - track)
+        let number = track.number();
+        if number < DIRECTORY_TRACK {
+            (Side::Lower, DIRECTORY_TRACK - number)
         } else {
-            (Side::Upper, track - DIRECTORY_TRACK)
+            (Side::Upper, number - DIRECTORY_TRACK)
         }
     }
 
@@ -68,22 +68,21 @@ impl Side {
     }
 
     /// The track at a distance from track 18.
-    fn track(self, distance: u8) -> u8
+    fn track(self, distance: u8) -> TrackNo
         requires { (1 ≤ distance) × (distance ≤ reach self) }
-        ensures at { result ≡ track_at self distance }
-        ensures range { IsTrackNumber result }
+        ensures { result ≡ track_at self distance }
     {
-        match self {
+        let number = match self {
             Side::Lower => DIRECTORY_TRACK - distance,
             Side::Upper => DIRECTORY_TRACK + distance,
-        }
+        };
+        TrackNo::of(number).unwrap()
     }
 }
 
 /// The first free block of a track from one sector up to another.
-fn pick_between(free: &BlockSet, track: u8, start: u8, end: u8) -> Option<BlockNo>
-    requires track { IsTrackNumber track }
-    requires end { end ≤ sectors_on track }
+fn pick_between(free: &BlockSet, track: TrackNo, start: u8, end: u8) -> Option<BlockNo>
+    requires { end ≤ sectors_on track }
     ensures { result ≡ find (set.contains free.now) (range_with_len (first_block track + start) (end - start)) }
 {
     let first = first_block(track);
@@ -101,8 +100,7 @@ fn pick_between(free: &BlockSet, track: u8, start: u8, end: u8) -> Option<BlockN
 }
 
 /// The first free block of a track.
-fn pick_on(free: &BlockSet, track: u8) -> Option<BlockNo>
-    requires { IsTrackNumber track }
+fn pick_on(free: &BlockSet, track: TrackNo) -> Option<BlockNo>
     ensures { result ≡ find (set.contains free.now) (blocks_on track) }
 {
     if member_bits(free, track) == 0 {
@@ -112,9 +110,8 @@ fn pick_on(free: &BlockSet, track: u8) -> Option<BlockNo>
 }
 
 /// The first free block of a track from a sector on, and then from the track's beginning.
-fn pick_around(free: &BlockSet, track: u8, start: u8) -> Option<BlockNo>
-    requires track { IsTrackNumber track }
-    requires start { start ≤ sectors_on track }
+fn pick_around(free: &BlockSet, track: TrackNo, start: u8) -> Option<BlockNo>
+    requires { start ≤ sectors_on track }
     ensures { result ≡ find (set.contains free.now) (rotated_list start (blocks_on track)) }
 {
     match pick_between(free, track, start, sector_count(track)) {
@@ -176,11 +173,11 @@ fn pick_outward(free: &BlockSet) -> Option<BlockNo>
     ensures { result ≡ find (set.contains free.now) (flat_map (λ distance. blocks_on (18 - distance) ++ blocks_on (18 + distance)) (range_with_len 1 17)) }
 {
     for distance in 1..LOWER_REACH + 1 {
-        match pick_on(free, DIRECTORY_TRACK - distance) {
+        match pick_on(free, Side::Lower.track(distance)) {
             Some(block) => return Some(block),
             None => {}
         }
-        match pick_on(free, DIRECTORY_TRACK + distance) {
+        match pick_on(free, Side::Upper.track(distance)) {
             Some(block) => return Some(block),
             None => {}
         }
@@ -205,10 +202,10 @@ pub fn pick_first(free: &BlockSet) -> Option<BlockNo>
 pub fn pick_next(free: &BlockSet, last: BlockNo) -> Option<BlockNo>
     ensures { result ≡ find (set.contains free.now) (next_order last) }
 {
-    let track = last.track();
-    if track == DIRECTORY_TRACK {
+    if last.track() == DIRECTORY_TRACK {
         return pick_first(free);
     }
+    let track = last.track_no();
     let start = sector_after(FILE_INTERLEAVE, sector_count(track), last.sector());
     match pick_around(free, track, start) {
         Some(block) => return Some(block),
@@ -223,14 +220,11 @@ pub fn pick_next(free: &BlockSet, last: BlockNo) -> Option<BlockNo>
 pub fn pick_dir(free: &BlockSet, last: BlockNo) -> Option<BlockNo>
     ensures { result ≡ find (set.contains free.now) (dir_order last) }
 {
+    let track = directory_track();
     if last.track() == DIRECTORY_TRACK {
-        let sectors = sector_count(DIRECTORY_TRACK);
-        pick_around(
-            free,
-            DIRECTORY_TRACK,
-            sector_after(DIRECTORY_INTERLEAVE, sectors, last.sector()),
-        )
+        let start = sector_after(DIRECTORY_INTERLEAVE, sector_count(track), last.sector());
+        pick_around(free, track, start)
     } else {
-        pick_on(free, DIRECTORY_TRACK)
+        pick_on(free, track)
     }
 }

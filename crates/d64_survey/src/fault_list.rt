@@ -18,10 +18,10 @@ use std::alloc::AllocError;
 fn list_counts(image: &Image, faults: &mut Vec<Fault>) -> Result<(), AllocError>
     ensures { OnOk result (faults.new.items ≡ faults.old.items ++ count_faults image.now) }
 {
-    for track in 1..image.tracks() + 1 {
+    for track in image.each_track() {
         let count = free_count(image, track);
         let marked = free_on(image, track);
-        let fault = Fault::WrongCount(track, count, marked);
+        let fault = Fault::WrongCount(track.number(), count, marked);
         push_if(faults, fault, count != marked)?;
     }
     Ok(())

@@ -11,7 +11,7 @@ use crate::cells::{column_x, push_cells, row_y};
 use crate::legend::{SHOWN_FILES, push_legend, rows_below};
 use crate::shapes::{push_number_of, push_text_at, push_text_of};
 use crate::style::push_style;
-use d64_image::Image;
+use d64_image::{Image, TrackNo};
 use d64_survey::Inspection;
 use host_storage::push_shown;
 use out_markup::{push_attribute, push_escaped, push_held, push_number_attribute, push_shortened};
@@ -172,19 +172,19 @@ fn push_column_heads(out: &mut Vec<u8>) -> Result<(), AllocError>
 
 /// Appends the number of a track, before its row.
 #[tactic(auto, unfolding(crate::specs::Svg::row_head))]
-fn push_row_head(out: &mut Vec<u8>, track: u8) -> Result<(), AllocError>
+fn push_row_head(out: &mut Vec<u8>, track: TrackNo) -> Result<(), AllocError>
     ensures { OnOk result (out.new.items ≡ out.old.items ++ row_head track) }
 {
-    push_number_of(out, b"end", 38, row_y(track) + 14, usize::from(track))?;
+    let number = track.number();
+    push_number_of(out, b"end", 38, row_y(number) + 14, usize::from(number))?;
     out.extend_from_slice(b"\n")
 }
 
 /// Appends the numbers of the tracks.
-fn push_row_heads(out: &mut Vec<u8>, tracks: u8) -> Result<(), AllocError>
-    requires { tracks < 41 }
-    ensures { OnOk result (out.new.items ≡ out.old.items ++ row_heads tracks) }
+fn push_row_heads(out: &mut Vec<u8>, image: &Image) -> Result<(), AllocError>
+    ensures { OnOk result (out.new.items ≡ out.old.items ++ row_heads (tracks_of (length image.now))) }
 {
-    for track in 1..tracks + 1 {
+    for track in image.each_track() {
         push_row_head(out, track)?;
     }
     Ok(())
@@ -240,7 +240,7 @@ pub(crate) fn push_front(
 {
     push_heads(out, name, inspection)?;
     push_column_heads(out)?;
-    push_row_heads(out, inspection.image().tracks())
+    push_row_heads(out, inspection.image())
 }
 
 /// Appends the whole content of the picture.

@@ -7,7 +7,7 @@ use d64_dos::Refusal;
 use d64_files::{
     Entry, Kind, Pattern, ReadFault, Slots, check, dir_last, find, first_empty, owned, slot_blocks,
 };
-use d64_image::{BlockNo, Image};
+use d64_image::{BlockNo, Image, TrackNo};
 use d64_map::{blocks_free, counts_fit, free_count, is_free};
 use std::alloc::Global;
 use std::test::Fail;
@@ -95,11 +95,18 @@ fn is_image(image: &Image, directory: BlockNo) -> bool {
         && BlockNo::of(36, 0).is_some_and(|beyond| !image.holds(beyond))
 }
 
+fn count_on_17(image: &Image) -> u8 {
+    match TrackNo::of(17) {
+        Some(track) => free_count(image, track),
+        None => 0,
+    }
+}
+
 fn is_map(image: &Image) -> Result<bool, Fail> {
     let first = block_in(image, 17, 0)?;
     Ok(
         !is_free(image, first)
-            && free_count(image, 17) == 10
+            && count_on_17(image) == 10
             && blocks_free(image) == 653
             && counts_fit(image),
     )

@@ -17,15 +17,13 @@ returns c =
     let bits = c.bits_on.result in
     let few = sectors_few track in
     let is : bit_and bits c.sector_mask.result ≡ bits % 2 ^ sectors_on track = ap (bit_and bits) c.sector_mask.ensures ∙ and_mask bits (sectors_on track) in
-    record {
-      added = track_added image track bits c.args.free.now _ c.requires.track.0 c.requires.before
-          (λ block.
-          c.add_bits.ensures block
-          ∙ ap₂ (λ (first given : ℕ). set.contains c.args.free.now block || (ltb block BLOCKS && is_given first given block)) c.first_block.ensures.first is
-          ∙ ap (λ (given : Bool). set.contains c.args.free.now block || given) (given_within track bits block c.requires.track.0 c.requires.track.1))
-          (λ s held.
-          let pair = pair_at-counted track s c.requires.track.0 c.requires.track.1 held in
-          ap (λ (n : ℕ). nat_eq n 1) (c.bits_on.ensures s (omega (arith, few, held)))
-          ∙ bit_tells image (first_block track + s) track s c.map_of.result.now c.map_of.ensures.value
-          (sym (ap (λ (p : ℕ × ℕ). p.0) pair)) (sym (ap (λ (p : ℕ × ℕ). p.1) pair)));
-    }
+    track_added image track bits c.args.free.now _ c.first_block.ensures.range.0 c.requires
+    (λ block.
+    c.add_bits.ensures block
+    ∙ ap₂ (λ (first given : ℕ). set.contains c.args.free.now block || (ltb block BLOCKS && is_given first given block)) c.first_block.ensures.first is
+    ∙ ap (λ (given : Bool). set.contains c.args.free.now block || given) (given_within track bits block c.first_block.ensures.range.0 c.first_block.ensures.range.1))
+    (λ s held.
+    let pair = pair_at-counted track s c.first_block.ensures.range.0 c.first_block.ensures.range.1 held in
+    ap (λ (n : ℕ). nat_eq n 1) (c.bits_on.ensures s (omega (arith, few, held)))
+    ∙ bit_tells image (first_block track + s) track s c.map_of.result.now c.map_of.ensures.value
+    (sym (ap (λ (p : ℕ × ℕ). p.0) pair)) (sym (ap (λ (p : ℕ × ℕ). p.1) pair)))

@@ -8,6 +8,6 @@ returns-clause-entry c =
     let track = c.args.track in
     let bits = c.member_bits-bits.result in
     let are = c.member_bits-bits.ensures.bits in
-    entry_written c.args.map.now free track c.entry_of-entry.result _ _ _ _ c.told-map c.requires.track.1 c.entry_of-entry.ensures.place
-    (ones_members free track bits c.requires.track.0 c.requires.track.1 are)
+    entry_written c.args.map.now free track c.entry_of-entry.result _ _ _ _ c.told-map c.member_bits-bits.ensures.range.1 c.entry_of-entry.ensures.place
+    (ones_members free track bits c.member_bits-bits.ensures.range.0 c.member_bits-bits.ensures.range.1 are)
     (low_byte free track bits are) (middle_byte free track bits are) (high_byte free track bits are)

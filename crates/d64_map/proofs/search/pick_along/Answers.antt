@@ -8,14 +8,14 @@ use Rattle.d64_map.proofs.search.pick_along.Goals as goal
 pub returns-in-Some : goal.returns-in-Some
 returns-in-Some c =
     along_here (set.contains c.args.free.now) c.args.side c.loop-distance.distance c.args.end c.in-Some.block c.loop-distance-test.true
-    (c.in-Some.ensures ∙ ap (λ (t : ℕ). find (set.contains c.args.free.now) (blocks_on t)) c.track.ensures.at)
+    (c.in-Some.ensures ∙ ap (λ (t : ℕ). find (set.contains c.args.free.now) (blocks_on t)) c.track.ensures)
     ∙ sym c.loop-distance.invariant
 
 pub loop-distance-preserved : goal.loop-distance-preserved
 loop-distance-preserved c =
     c.loop-distance.invariant
     ∙ along_later (set.contains c.args.free.now) c.args.side c.loop-distance.distance c.args.end c.loop-distance-test.true
-    (c.in-None.ensures ∙ ap (λ (t : ℕ). find (set.contains c.args.free.now) (blocks_on t)) c.track.ensures.at)
+    (c.in-None.ensures ∙ ap (λ (t : ℕ). find (set.contains c.args.free.now) (blocks_on t)) c.track.ensures)
 
 pub returns : goal.returns
 returns c =

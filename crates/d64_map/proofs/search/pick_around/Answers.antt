@@ -22,6 +22,6 @@ returns-in-None c =
     c.pick_between-in-None.ensures
     ∙ ap (λ (a : ℕ). find p (range_with_len a (c.args.start - 0))) e
     ∙ ap (λ (k : ℕ). find p (range_with_len (first_block c.args.track) k)) n
-    ∙ ap (find p) (sym (take_on c.args.track c.args.start c.requires.start))
+    ∙ ap (find p) (sym (take_on c.args.track c.args.start c.requires))
     ∙ sym (found_second p (drop c.args.start (blocks_on c.args.track)) (take c.args.start (blocks_on c.args.track))
     (ap (find p) (drop_on c.args.track c.args.start) ∙ sym (c.in-None.ensures ∙ end)))

@@ -22,7 +22,7 @@ loop-sector-preserved c =
           c.loop-sector.invariant
           ∙ sector_later (set.contains c.args.free.now) track sector w.in-Some.block c.args.end c.loop-sector-test.true found (sym w.has.ensures.value ∙ w.if-has.false)
       | in-None w ↦
-          let held : sector < sectors_on track = omega (arith, c.loop-sector-test.true, c.requires.end) in
-          let below = counted_below track sector c.requires.track.1 held in
+          let held : sector < sectors_on track = omega (arith, c.loop-sector-test.true, c.requires) in
+          let below = counted_below track sector c.first_block-first.ensures.range.1 held in
           absurd (omega (arith, w.in-None.ensures, below, c.from.ensures, c.first_block-first.ensures.first))
     ]

@@ -6,4 +6,4 @@ use Rattle.d64_map.proofs.search.pick_between.Given as goal
 
 abbrev pub invariant-loop-sector : goal.invariant-loop-sector
 invariant-loop-sector l =
-    find (set.contains l.free) (range_with_len (first_block l.track + l.start) (l.end - l.start)) ≡ find (set.contains l.free) (range_with_len (first_block l.track + l.sector) (l.end - l.sector))
+    find (set.contains l.free) (range_with_len (first_block l.fn.track + l.start) (l.end - l.start)) ≡ find (set.contains l.free) (range_with_len (first_block l.fn.track + l.sector) (l.end - l.sector))

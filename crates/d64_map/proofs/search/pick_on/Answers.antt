@@ -8,7 +8,7 @@ use Rattle.d64_map.proofs.search.pick_on.Goals as goal
 
 pub returns-then-member_bits-eq0 : goal.returns-then-member_bits-eq0
 returns-then-member_bits-eq0 c =
-    sym (none_on c.args.free.now c.args.track c.member_bits.result c.requires.0 c.requires.1 c.member_bits.ensures.bits c.if-member_bits-eq0.true)
+    sym (none_on c.args.free.now c.args.track c.member_bits.result c.member_bits.ensures.range.0 c.member_bits.ensures.range.1 c.member_bits.ensures.bits c.if-member_bits-eq0.true)
 
 pub returns : goal.returns
 returns c =

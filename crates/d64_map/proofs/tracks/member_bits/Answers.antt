@@ -18,6 +18,7 @@ returns c =
       bits = λ places all.
           ap (bit_and c.bits_from.result) c.sector_mask.ensures
           ∙ and_mask c.bits_from.result (sectors_on track)
-          ∙ members_read blocks track c.first_block.result (sectors_on track) c.bits_from.result c.requires.track.0 c.requires.track.1 refl c.first_block.ensures.first few c.bits_from.ensures
+          ∙ members_read blocks track c.first_block.result (sectors_on track) c.bits_from.result c.first_block.ensures.range.0 c.first_block.ensures.range.1 refl c.first_block.ensures.first few c.bits_from.ensures
           ∙ bits_past (has_sector blocks track) (sectors_on track) places all (λ s past. has_sector-none blocks track s past);
+      range = c.first_block.ensures.range;
     }

@@ -1,4 +1,4 @@
-use Rattle.std.proofs.Common.{◌≡◌, ◌||◌, Bool, not, ltb, eqb, List, length, ap, ◌∙◌}
+use Rattle.std.proofs.Common.{◌||◌, Bool, not, ltb, eqb, List, length, ap, ◌∙◌}
 use Rattle.d64_survey.specs.Faults.{faults}
 use Rattle.d64_survey.specs.Doubts.{doubts}
 use Rattle.d64_survey.specs.Inspection.{unwhole_count, is_sound, is_amiss}
