@@ -1,37 +1,43 @@
 //! The folders of the files of an image, by its path.
 
 use host_names::ImagePlace;
+use std::alloc::{AllocError, Global};
 use std::test::Fail;
+
+/// Paths of images, and the folders on the way to the files of each, the name of the folder that
+/// gets them, and its name until it has all.
+const PLACES: [(&str, &str); 8] = [
+    ("c.d64", "c.d64.files c.d64.files.partial"),
+    ("a/side1.d64", "a side1.d64.files side1.d64.files.partial"),
+    (
+        "/a//b/./../c/../side1.d64",
+        "a b c side1.d64.files side1.d64.files.partial",
+    ),
+    ("../../x.d64", "x.d64.files x.d64.files.partial"),
+    ("...//..a/x", "... ..a x.files x.files.partial"),
+    ("a/..", "a ...files ...files.partial"),
+    ("a/", "a .files .files.partial"),
+    ("", ".files .files.partial"),
+];
+
+/// Returns the folders and the two names of an image's path, with a space after each but the last.
+fn shown(alloc: Global, path: &str) -> Result<String, AllocError> {
+    let place = ImagePlace::of(alloc, path)?;
+    let mut text = String::new(alloc);
+    for folder in place.folders.iter() {
+        text.push_str(folder)?;
+        text.push(' ')?;
+    }
+    place.push_name(&mut text)?;
+    text.push(' ')?;
+    place.push_partial_name(&mut text)?;
+    Ok(text)
+}
 
 #[test]
 fn places_are_below(rt: HostRuntime) -> Result<(), Fail> {
-    for (path, folders, wanted) in [
-        ("c.d64", "", "c.d64.files"),
-        ("a/side1.d64", "a ", "side1.d64.files"),
-        ("/a//b/./../c/../side1.d64", "a b c ", "side1.d64.files"),
-        ("../../x.d64", "", "x.d64.files"),
-        ("...//..a/x", "... ..a ", "x.files"),
-        ("a/..", "a ", "...files"),
-        ("a/", "a ", ".files"),
-        ("", "", ".files"),
-    ] {
-        let place = ImagePlace::of(rt.alloc(), path)?;
-        let mut found = String::new(rt.alloc());
-        for folder in place.folders.iter() {
-            found.push_str(folder)?;
-            found.push(' ')?;
-        }
-        assert_eq!(rt; found.as_str(), folders, "at {path}");
-        let mut name = String::new(rt.alloc());
-        place.push_name(&mut name)?;
-        assert_eq!(rt; name.as_str(), wanted, "at {path}");
-        let mut partial = String::new(rt.alloc());
-        place.push_partial_name(&mut partial)?;
-        assert_eq!(rt;
-            partial.as_str().strip_suffix(".partial"),
-            Some(wanted),
-            "at {path}"
-        );
+    for (path, wanted) in &PLACES {
+        assert_eq!(rt; shown(rt.alloc(), path)?.as_str(), *wanted, "at {path}");
     }
     Ok(())
 }

@@ -67,82 +67,92 @@ fn refuses_lines_of_more_than_1024_bytes(rt: HostRuntime) {
     assert!(rt; matches!(Words::of(&[b' '; 1025]), Err(NoWords)));
 }
 
+/// The statuses, and the line of each.
+const STATUSES: [(Status, &str); 24] = [
+    (Status::Done, "00, OK,00,00\n"),
+    (
+        Status::FilesScratched { count: 2 },
+        "01,FILES SCRATCHED,02,00\n",
+    ),
+    (
+        Status::FilesScratched { count: 144 },
+        "01,FILES SCRATCHED,144,00\n",
+    ),
+    (Status::SyntaxError, "30,SYNTAX ERROR,00,00\n"),
+    (Status::UnknownCommand, "31,SYNTAX ERROR,00,00\n"),
+    (Status::LongLine, "32,SYNTAX ERROR,00,00\n"),
+    (Status::BadName, "33,SYNTAX ERROR,00,00\n"),
+    (Status::MissingWord, "34,SYNTAX ERROR,00,00\n"),
+    (Status::WriteFileOpen, "60,WRITE FILE OPEN,00,00\n"),
+    (Status::FileNotFound, "62,FILE NOT FOUND,00,00\n"),
+    (Status::FileExists, "63,FILE EXISTS,00,00\n"),
+    (Status::FileTypeMismatch, "64,FILE TYPE MISMATCH,00,00\n"),
+    (
+        Status::IllegalBlock {
+            track: 36,
+            sector: 0,
+        },
+        "66,ILLEGAL TRACK AND SECTOR,36,00\n",
+    ),
+    (
+        Status::IllegalBlock {
+            track: 1,
+            sector: 21,
+        },
+        "66,ILLEGAL TRACK AND SECTOR,01,21\n",
+    ),
+    (
+        Status::DirectoryError { condition: 2 },
+        "71,DIR ERROR,02,00\n",
+    ),
+    (Status::DiskFull, "72,DISK FULL,00,00\n"),
+    (Status::HostFile { fault: 2 }, "80,HOST FILE,02,00\n"),
+    (Status::NothingToUndo, "81,NOTHING TO UNDO,00,00\n"),
+    (Status::NothingToRedo, "82,NOTHING TO REDO,00,00\n"),
+    (Status::NotOneBlock, "83,NOT ONE BLOCK,00,00\n"),
+    (
+        Status::BasicText { fault: 1, line: 1 },
+        "84,BASIC TEXT,01,01\n",
+    ),
+    (Status::NotBasic { fault: 1 }, "85,NOT BASIC,01,00\n"),
+    (Status::FileLost, "86,FILE LOST,00,00\n"),
+    (Status::OutOfMemory, "90,OUT OF MEMORY,00,00\n"),
+];
+
 #[test]
 fn shows_each_status(rt: HostRuntime) {
-    let lines = [
-        (Status::Done, "00, OK,00,00\n"),
-        (
-            Status::FilesScratched { count: 2 },
-            "01,FILES SCRATCHED,02,00\n",
-        ),
-        (
-            Status::FilesScratched { count: 144 },
-            "01,FILES SCRATCHED,144,00\n",
-        ),
-        (Status::SyntaxError, "30,SYNTAX ERROR,00,00\n"),
-        (Status::UnknownCommand, "31,SYNTAX ERROR,00,00\n"),
-        (Status::LongLine, "32,SYNTAX ERROR,00,00\n"),
-        (Status::BadName, "33,SYNTAX ERROR,00,00\n"),
-        (Status::MissingWord, "34,SYNTAX ERROR,00,00\n"),
-        (Status::WriteFileOpen, "60,WRITE FILE OPEN,00,00\n"),
-        (Status::FileNotFound, "62,FILE NOT FOUND,00,00\n"),
-        (Status::FileExists, "63,FILE EXISTS,00,00\n"),
-        (Status::FileTypeMismatch, "64,FILE TYPE MISMATCH,00,00\n"),
-        (
-            Status::IllegalBlock {
-                track: 36,
-                sector: 0,
-            },
-            "66,ILLEGAL TRACK AND SECTOR,36,00\n",
-        ),
-        (
-            Status::IllegalBlock {
-                track: 1,
-                sector: 21,
-            },
-            "66,ILLEGAL TRACK AND SECTOR,01,21\n",
-        ),
-        (
-            Status::DirectoryError { condition: 2 },
-            "71,DIR ERROR,02,00\n",
-        ),
-        (Status::DiskFull, "72,DISK FULL,00,00\n"),
-        (Status::HostFile { fault: 2 }, "80,HOST FILE,02,00\n"),
-        (Status::NothingToUndo, "81,NOTHING TO UNDO,00,00\n"),
-        (Status::NothingToRedo, "82,NOTHING TO REDO,00,00\n"),
-        (Status::NotOneBlock, "83,NOT ONE BLOCK,00,00\n"),
-        (
-            Status::BasicText { fault: 1, line: 1 },
-            "84,BASIC TEXT,01,01\n",
-        ),
-        (Status::NotBasic { fault: 1 }, "85,NOT BASIC,01,00\n"),
-        (Status::FileLost, "86,FILE LOST,00,00\n"),
-        (Status::OutOfMemory, "90,OUT OF MEMORY,00,00\n"),
-    ];
-    for (status, line) in lines {
+    for (status, line) in &STATUSES {
         let shown = status.line();
         assert_eq!(rt; shown.as_slice(), line.as_bytes());
         assert_eq!(rt; status.is_accepted(), status.number() < 2);
     }
 }
 
+/// Arguments, and the byte that each is.
+const NUMBERS: [(&[u8], Option<u8>); 8] = [
+    (b"0", Some(0)),
+    (b"036", Some(36)),
+    (b"255", Some(255)),
+    (b"", None),
+    (b"256", None),
+    (b"0001", None),
+    (b"+1", None),
+    (b"x", None),
+];
+
 #[test]
 fn reads_one_to_three_digits_of_a_byte(rt: HostRuntime) {
-    assert_eq!(rt; number(b"0"), Some(0));
-    assert_eq!(rt; number(b"036"), Some(36));
-    assert_eq!(rt; number(b"255"), Some(255));
-    for word in [&b""[..], &b"256"[..], &b"0001"[..], &b"+1"[..], &b"x"[..]] {
-        assert_eq!(rt; number(word), None);
+    for (argument, byte) in &NUMBERS {
+        assert_eq!(rt; number(argument), *byte);
     }
 }
 
 #[test]
 fn lines_end_with_a_line_feed(rt: HostRuntime) {
     let mut lines = RawLines(b"a\r\n\n;\rb\nc\r");
-    assert_eq!(rt; lines.next(), Some(b"a\r\n".as_slice()));
-    assert_eq!(rt; lines.next(), Some(b"\n".as_slice()));
-    assert_eq!(rt; lines.next(), Some(b";\rb\n".as_slice()));
-    assert_eq!(rt; lines.next(), Some(b"c\r".as_slice()));
+    for line in [&b"a\r\n"[..], &b"\n"[..], &b";\rb\n"[..], &b"c\r"[..]] {
+        assert_eq!(rt; lines.next(), Some(line));
+    }
     assert_eq!(rt; lines.next(), None);
 }
 
@@ -176,19 +186,26 @@ fn blanks_and_comments_are_skipped(rt: HostRuntime) {
 }
 
 #[test]
-fn reads_and_writes_whole_scripts(rt: HostRuntime) -> Result<(), Fail> {
+fn reads_whole_scripts(rt: HostRuntime) -> Result<(), Fail> {
     let mut reader = b"undo\nredo".as_slice();
     let script = read_input(rt.alloc(), &mut InputStream::new(&mut reader))?;
     assert!(rt; script.whole);
     assert_eq!(rt; script.bytes.as_slice(), b"undo\nredo".as_slice());
+    Ok(())
+}
 
-    let mut answers = Vec::new(rt.alloc());
-    write_answer(&mut answers, b"00, OK,00,00\n")?;
-    assert_eq!(rt; answers.as_slice(), b"00, OK,00,00\n".as_slice());
+#[test]
+fn writes_whole_answers(rt: HostRuntime) -> Result<(), Fail> {
+    let mut written = Vec::new(rt.alloc());
+    write_answer(&mut written, b"00, OK,00,00\n")?;
+    assert_eq!(rt; written.as_slice(), b"00, OK,00,00\n".as_slice());
+    Ok(())
+}
 
+#[test]
+fn writes_what_a_writer_has_room_for(rt: HostRuntime) {
     let mut room = [0; 5];
     let mut writer = room.as_mut_slice();
     assert!(rt; write_answer(&mut writer, b"00, OK").is_err());
     assert_eq!(rt; room, *b"00, O");
-    Ok(())
 }

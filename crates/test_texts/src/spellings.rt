@@ -2,130 +2,147 @@
 
 use petscii::{TextFault, from_text, to_text};
 use std::alloc::AllocError;
+use std::process::Abort;
 use std::test::Fail;
+
+/// The bytes in text form, sixteen in each row.
+const TABLE: [&str; 16] = [
+    "{$00}{$01}{$02}{$03}{$04}{wht}{$06}{$07}{$08}{$09}{$0a}{$0b}{$0c}{$0d}{swlc}{$0f}",
+    "{$10}{down}{rvon}{home}{del}{$15}{$16}{$17}{$18}{$19}{$1a}{$1b}{red}{rght}{grn}{blu}",
+    " !\"#$%&'()*+,-./",
+    "0123456789:;<=>?",
+    "@abcdefghijklmno",
+    "pqrstuvwxyz[\\]^_",
+    "{$60}{$61}{$62}{$63}{$64}{$65}{$66}{$67}{$68}{$69}{$6a}{$6b}{$6c}{$6d}{$6e}{$6f}",
+    "{$70}{$71}{$72}{$73}{$74}{$75}{$76}{$77}{$78}{$79}{$7a}{$7b}{$7c}{$7d}{$7e}{$7f}",
+    "{$80}{orng}{$82}{$83}{$84}{$85}{$86}{$87}{$88}{$89}{$8a}{$8b}{$8c}{$8d}{swuc}{$8f}",
+    "{blk}{up}{rvof}{clr}{inst}{brn}{lred}{gry1}{gry2}{lgrn}{lblu}{gry3}{pur}{left}{yel}{cyn}",
+    "{$a0}{$a1}{$a2}{$a3}{$a4}{$a5}{$a6}{$a7}{$a8}{$a9}{$aa}{$ab}{$ac}{$ad}{$ae}{$af}",
+    "{$b0}{$b1}{$b2}{$b3}{$b4}{$b5}{$b6}{$b7}{$b8}{$b9}{$ba}{$bb}{$bc}{$bd}{$be}{$bf}",
+    "{$c0}ABCDEFGHIJKLMNO",
+    "PQRSTUVWXYZ{$db}{$dc}{$dd}{$de}{$df}",
+    "{$e0}{$e1}{$e2}{$e3}{$e4}{$e5}{$e6}{$e7}{$e8}{$e9}{$ea}{$eb}{$ec}{$ed}{$ee}{$ef}",
+    "{$f0}{$f1}{$f2}{$f3}{$f4}{$f5}{$f6}{$f7}{$f8}{$f9}{$fa}{$fb}{$fc}{$fd}{$fe}~",
+];
+
+/// Returns sixteen bytes, one after another.
+fn sixteen_from(first: u8) -> [u8; 16] {
+    let mut bytes = [first; 16];
+    for (offset, byte) in bytes.iter_mut().enumerate() {
+        *byte |= offset as u8;
+    }
+    bytes
+}
 
 #[test]
 fn spells_the_table(rt: HostRuntime) -> Result<(), Fail> {
-    let rows = [
-        "{$00}{$01}{$02}{$03}{$04}{wht}{$06}{$07}{$08}{$09}{$0a}{$0b}{$0c}{$0d}{swlc}{$0f}",
-        "{$10}{down}{rvon}{home}{del}{$15}{$16}{$17}{$18}{$19}{$1a}{$1b}{red}{rght}{grn}{blu}",
-        " !\"#$%&'()*+,-./",
-        "0123456789:;<=>?",
-        "@abcdefghijklmno",
-        "pqrstuvwxyz[\\]^_",
-        "{$60}{$61}{$62}{$63}{$64}{$65}{$66}{$67}{$68}{$69}{$6a}{$6b}{$6c}{$6d}{$6e}{$6f}",
-        "{$70}{$71}{$72}{$73}{$74}{$75}{$76}{$77}{$78}{$79}{$7a}{$7b}{$7c}{$7d}{$7e}{$7f}",
-        "{$80}{orng}{$82}{$83}{$84}{$85}{$86}{$87}{$88}{$89}{$8a}{$8b}{$8c}{$8d}{swuc}{$8f}",
-        "{blk}{up}{rvof}{clr}{inst}{brn}{lred}{gry1}{gry2}{lgrn}{lblu}{gry3}{pur}{left}{yel}{cyn}",
-        "{$a0}{$a1}{$a2}{$a3}{$a4}{$a5}{$a6}{$a7}{$a8}{$a9}{$aa}{$ab}{$ac}{$ad}{$ae}{$af}",
-        "{$b0}{$b1}{$b2}{$b3}{$b4}{$b5}{$b6}{$b7}{$b8}{$b9}{$ba}{$bb}{$bc}{$bd}{$be}{$bf}",
-        "{$c0}ABCDEFGHIJKLMNO",
-        "PQRSTUVWXYZ{$db}{$dc}{$dd}{$de}{$df}",
-        "{$e0}{$e1}{$e2}{$e3}{$e4}{$e5}{$e6}{$e7}{$e8}{$e9}{$ea}{$eb}{$ec}{$ed}{$ee}{$ef}",
-        "{$f0}{$f1}{$f2}{$f3}{$f4}{$f5}{$f6}{$f7}{$f8}{$f9}{$fa}{$fb}{$fc}{$fd}{$fe}~",
-    ];
     let mut first: u8 = 0;
-    for row in rows {
-        let mut bytes = [first; 16];
-        for (offset, byte) in bytes.iter_mut().enumerate() {
-            *byte |= offset as u8;
-        }
-        let text = to_text(rt.alloc(), &bytes)?;
-        assert_eq!(rt; text.as_slice(), row.as_bytes(), "from {first}");
-        let back = from_text(rt.alloc(), row.as_bytes())?;
-        assert_eq!(rt; back.as_slice(), bytes.as_slice(), "from {first}");
+    for row in &TABLE {
+        expect_spelling(&rt, &sixteen_from(first), row)?;
         first = first.wrapping_add(16);
     }
     Ok(())
 }
 
-#[test]
-fn spells_and_reads(rt: HostRuntime) -> Result<(), Fail> {
-    let bytes = [0x93, 0x41, 0xc1, 0x07];
-    let text = to_text(rt.alloc(), &bytes)?;
-    assert_eq!(rt; text.as_slice(), b"{clr}aA{$07}".as_slice());
-    let back = from_text(rt.alloc(), b"{CLR}a{$C1}{$07}")?;
-    assert_eq!(rt; back.as_slice(), bytes.as_slice());
-    let value = from_text(rt.alloc(), b"{$41}{$Ff}{$fF}{$93}")?;
-    assert_eq!(rt; value.as_slice(), [0x41, 0xff, 0xff, 0x93].as_slice());
+/// Checks the text form of bytes, and what it reads back as.
+fn expect_spelling<R: Abort + AllocGlobal>(rt: &R, bytes: &[u8], text: &str) -> Result<(), Fail> {
+    let spelled = to_text(rt.alloc(), bytes)?;
+    assert_eq!(rt; spelled.as_slice(), text.as_bytes());
+    expect_bytes(rt, text, bytes)
+}
+
+/// Checks what a text reads as.
+fn expect_bytes<R: Abort + AllocGlobal>(rt: &R, text: &str, bytes: &[u8]) -> Result<(), Fail> {
+    let read = from_text(rt.alloc(), text.as_bytes())?;
+    assert_eq!(rt; read.as_slice(), bytes, "of {text}");
     Ok(())
 }
+
+#[test]
+fn spells_and_reads(rt: HostRuntime) -> Result<(), Fail> {
+    expect_spelling(&rt, b"\x93A\xc1\x07", "{clr}aA{$07}")?;
+    expect_bytes(&rt, "{CLR}a{$C1}{$07}", b"\x93A\xc1\x07")?;
+    expect_bytes(&rt, "{$41}{$Ff}{$fF}{$93}", b"A\xff\xff\x93")
+}
+
+/// The control codes that have names, in the order of the names below.
+const CODES: [u8; 28] = [
+    0x05, 0x0e, 0x11, 0x12, 0x13, 0x14, 0x1c, 0x1d, 0x1e, 0x1f, 0x81, 0x8e, 0x90, 0x91, 0x92, 0x93,
+    0x94, 0x95, 0x96, 0x97, 0x98, 0x99, 0x9a, 0x9b, 0x9c, 0x9d, 0x9e, 0x9f,
+];
+
+/// The names of all these codes, in small letters, in capitals and in both.
+const NAMES: [&str; 3] = [
+    "{wht}{swlc}{down}{rvon}{home}{del}{red}{rght}{grn}{blu}{orng}{swuc}{blk}{up}{rvof}{clr}{inst}{brn}{lred}{gry1}{gry2}{lgrn}{lblu}{gry3}{pur}{left}{yel}{cyn}",
+    "{WHT}{SWLC}{DOWN}{RVON}{HOME}{DEL}{RED}{RGHT}{GRN}{BLU}{ORNG}{SWUC}{BLK}{UP}{RVOF}{CLR}{INST}{BRN}{LRED}{GRY1}{GRY2}{LGRN}{LBLU}{GRY3}{PUR}{LEFT}{YEL}{CYN}",
+    "{Wht}{sWlc}{doWn}{rvoN}{HOme}{dEL}{ReD}{rGHt}{Grn}{bLu}{oRNg}{SwUc}{blK}{Up}{rVof}{cLr}{inSt}{BRn}{lReD}{Gry1}{gRy2}{lgRn}{lblU}{GRy3}{pUr}{lEft}{YeL}{cYN}",
+];
 
 #[test]
 fn reads_names_in_either_case(rt: HostRuntime) -> Result<(), Fail> {
-    let codes = [
-        0x05, 0x0e, 0x11, 0x12, 0x13, 0x14, 0x1c, 0x1d, 0x1e, 0x1f, 0x81, 0x8e, 0x90, 0x91, 0x92,
-        0x93, 0x94, 0x95, 0x96, 0x97, 0x98, 0x99, 0x9a, 0x9b, 0x9c, 0x9d, 0x9e, 0x9f,
-    ];
-    let texts = [
-        "{wht}{swlc}{down}{rvon}{home}{del}{red}{rght}{grn}{blu}{orng}{swuc}{blk}{up}{rvof}{clr}{inst}{brn}{lred}{gry1}{gry2}{lgrn}{lblu}{gry3}{pur}{left}{yel}{cyn}",
-        "{WHT}{SWLC}{DOWN}{RVON}{HOME}{DEL}{RED}{RGHT}{GRN}{BLU}{ORNG}{SWUC}{BLK}{UP}{RVOF}{CLR}{INST}{BRN}{LRED}{GRY1}{GRY2}{LGRN}{LBLU}{GRY3}{PUR}{LEFT}{YEL}{CYN}",
-        "{Wht}{sWlc}{doWn}{rvoN}{HOme}{dEL}{ReD}{rGHt}{Grn}{bLu}{oRNg}{SwUc}{blK}{Up}{rVof}{cLr}{inSt}{BRn}{lReD}{Gry1}{gRy2}{lgRn}{lblU}{GRy3}{pUr}{lEft}{YeL}{cYN}",
-    ];
-    for text in texts {
-        let bytes = from_text(rt.alloc(), text.as_bytes())?;
-        assert_eq!(rt; bytes.as_slice(), codes.as_slice(), "of {text}");
+    for text in &NAMES {
+        expect_bytes(&rt, text, &CODES)?;
     }
     Ok(())
 }
 
+/// Texts, and the fault of each.
+const FAULTS: [(&str, TextFault); 24] = [
+    ("{foo}", TextFault::UnknownName { place: 0 }),
+    ("a{foo}b", TextFault::UnknownName { place: 1 }),
+    ("a{clr}{foo}", TextFault::UnknownName { place: 6 }),
+    ("{}", TextFault::UnknownName { place: 0 }),
+    ("{$4}", TextFault::UnknownName { place: 0 }),
+    ("{$041}", TextFault::UnknownName { place: 0 }),
+    ("{$4g}", TextFault::UnknownName { place: 0 }),
+    ("{clr }", TextFault::UnknownName { place: 0 }),
+    ("{a", TextFault::OpenBrace { place: 0 }),
+    ("a{clr", TextFault::OpenBrace { place: 1 }),
+    ("ab{", TextFault::OpenBrace { place: 2 }),
+    ("|", TextFault::BadByte { place: 0 }),
+    ("|ab", TextFault::BadByte { place: 0 }),
+    ("a|b", TextFault::BadByte { place: 1 }),
+    ("{clr}a}", TextFault::BadByte { place: 6 }),
+    ("a`", TextFault::BadByte { place: 1 }),
+    ("a\tb", TextFault::BadByte { place: 1 }),
+    ("a\n", TextFault::BadByte { place: 1 }),
+    ("a\r\n", TextFault::BadByte { place: 1 }),
+    ("\u{7f}", TextFault::BadByte { place: 0 }),
+    ("a\u{e9}", TextFault::BadByte { place: 1 }),
+    ("a{foo}|", TextFault::UnknownName { place: 1 }),
+    ("a|{foo}", TextFault::BadByte { place: 1 }),
+    ("|{", TextFault::BadByte { place: 0 }),
+];
+
 #[test]
 fn reports_the_leftmost_fault(rt: HostRuntime) {
-    let faults = [
-        ("{foo}", TextFault::UnknownName { place: 0 }),
-        ("a{foo}b", TextFault::UnknownName { place: 1 }),
-        ("a{clr}{foo}", TextFault::UnknownName { place: 6 }),
-        ("{}", TextFault::UnknownName { place: 0 }),
-        ("{$4}", TextFault::UnknownName { place: 0 }),
-        ("{$041}", TextFault::UnknownName { place: 0 }),
-        ("{$4g}", TextFault::UnknownName { place: 0 }),
-        ("{clr }", TextFault::UnknownName { place: 0 }),
-        ("{a", TextFault::OpenBrace { place: 0 }),
-        ("a{clr", TextFault::OpenBrace { place: 1 }),
-        ("ab{", TextFault::OpenBrace { place: 2 }),
-        ("|", TextFault::BadByte { place: 0 }),
-        ("|ab", TextFault::BadByte { place: 0 }),
-        ("a|b", TextFault::BadByte { place: 1 }),
-        ("{clr}a}", TextFault::BadByte { place: 6 }),
-        ("a`", TextFault::BadByte { place: 1 }),
-        ("a\tb", TextFault::BadByte { place: 1 }),
-        ("a\n", TextFault::BadByte { place: 1 }),
-        ("a\r\n", TextFault::BadByte { place: 1 }),
-        ("\u{7f}", TextFault::BadByte { place: 0 }),
-        ("a\u{e9}", TextFault::BadByte { place: 1 }),
-        ("a{foo}|", TextFault::UnknownName { place: 1 }),
-        ("a|{foo}", TextFault::BadByte { place: 1 }),
-        ("|{", TextFault::BadByte { place: 0 }),
-    ];
-    for (text, fault) in faults {
-        assert_eq!(rt;
-            from_text(rt.alloc(), text.as_bytes()).err(),
-            Some(fault),
-            "of {text:?}"
-        );
+    for (text, fault) in &FAULTS {
+        let found = from_text(rt.alloc(), text.as_bytes()).err();
+        assert_eq!(rt; found.as_ref(), Some(fault), "of {text:?}");
     }
 }
 
+/// Faults, and their texts.
+const MESSAGES: [(TextFault, &str); 4] = [
+    (
+        TextFault::UnknownName { place: 3 },
+        "at offset 3: unknown name in braces; write a control code, as {clr}, or a byte's value, as {$93}",
+    ),
+    (
+        TextFault::OpenBrace { place: 0 },
+        "at offset 0: the { is not closed by a }",
+    ),
+    (
+        TextFault::BadByte { place: 12 },
+        "at offset 12: no byte has this character; write the byte's value, as {$7c}",
+    ),
+    (TextFault::Memory(AllocError), "out of memory"),
+];
+
 #[test]
 fn says_what_to_do(rt: HostRuntime) -> Result<(), Fail> {
-    let messages = [
-        (
-            TextFault::UnknownName { place: 3 },
-            "at offset 3: unknown name in braces; write a control code, as {clr}, or a byte's value, as {$93}",
-        ),
-        (
-            TextFault::OpenBrace { place: 0 },
-            "at offset 0: the { is not closed by a }",
-        ),
-        (
-            TextFault::BadByte { place: 12 },
-            "at offset 12: no byte has this character; write the byte's value, as {$7c}",
-        ),
-        (TextFault::Memory(AllocError), "out of memory"),
-    ];
-    for (fault, message) in messages {
-        let told = format!(in rt.alloc(); "{fault}")?;
-        assert_eq!(rt; told.as_str(), message);
+    for (fault, message) in &MESSAGES {
+        assert_eq!(rt; format!(in rt.alloc(); "{fault}")?.as_str(), *message);
     }
     Ok(())
 }

@@ -60,19 +60,39 @@ fn lengths_are_printed_with_a_guess(rt: HostRuntime) -> Result<(), Fail> {
     Ok(())
 }
 
+/// What is printed of files that begin with these bytes.
+const BEGINNINGS: [(&[u8], &[u8]); 6] = [
+    (b"GCR-1541\0", b"d64sh: x: bad G64\n"),
+    (b"PK\x03\x04", b"d64sh: x: wrong length 4 (a zip archive)\n"),
+    (b"\x1f\x8b", b"d64sh: x: wrong length 2 (a gzip file)\n"),
+    (
+        b"C64 tape image file",
+        b"d64sh: x: wrong length 19 (a T64 archive)\n",
+    ),
+    (b"C64File\0x", b"d64sh: x: wrong length 9 (a P00 file)\n"),
+    (
+        b"MNIB-1541-RAW\x03",
+        b"d64sh: x: wrong length 14 (a NIB image)\n",
+    ),
+];
+
 #[test]
 fn first_bytes_are_recognised(rt: HostRuntime) -> Result<(), Fail> {
+    for (bytes, line) in &BEGINNINGS {
+        let mut out = Vec::new(rt.alloc());
+        wrong_length_line(&mut out, b"x", bytes)?;
+        assert_eq!(rt; out.as_slice(), *line);
+    }
+    Ok(())
+}
+
+#[test]
+fn a_name_that_cannot_be_read_is_shown(rt: HostRuntime) -> Result<(), Fail> {
     let mut out = Vec::new(rt.alloc());
     unread_line(&mut out, b"a\nb")?;
-    wrong_length_line(&mut out, b"x", b"GCR-1541\0")?;
-    wrong_length_line(&mut out, b"x", b"PK\x03\x04")?;
-    wrong_length_line(&mut out, b"x", b"\x1f\x8b")?;
-    wrong_length_line(&mut out, b"x", b"C64 tape image file")?;
-    wrong_length_line(&mut out, b"x", b"C64File\0x")?;
-    wrong_length_line(&mut out, b"x", b"MNIB-1541-RAW\x03")?;
     assert_eq!(rt;
         out.as_slice(),
-        b"d64sh: a\\u{a}b: cannot be read\nd64sh: x: bad G64\nd64sh: x: wrong length 4 (a zip archive)\nd64sh: x: wrong length 2 (a gzip file)\nd64sh: x: wrong length 19 (a T64 archive)\nd64sh: x: wrong length 9 (a P00 file)\nd64sh: x: wrong length 14 (a NIB image)\n".as_slice()
+        b"d64sh: a\\u{a}b: cannot be read\n".as_slice()
     );
     Ok(())
 }
