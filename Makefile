@@ -13,7 +13,7 @@ IS_BUILT = [ -x $(PROGRAM) ] && [ -z "$$(find crates -name '*.rt' -newer $(PROGR
 
 .PHONY: all run test check quick wrong-bodies bench install uninstall dist
 
-# the libraries side by side
+# by rt ci, which keeps on this machine what it proved
 all:
 	@$(NEEDS_RT)
 	@scripts/build

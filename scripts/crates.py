@@ -4,10 +4,10 @@ import contextlib
 import functools
 import glob
 import os
+import re
 import shutil
 import subprocess
 import tempfile
-import time
 
 TOP = os.path.dirname(os.path.dirname(os.path.abspath(__file__)))
 RT = os.environ.get("RT", "rt")
@@ -88,8 +88,7 @@ def rt(crate, *words, top=TOP, **how):
 
 def in_order(crates, wanted, call):
     """Calls a function for each wanted crate once it was true for those of them that the crate uses, as many side by side as there is room for,
-    and that with the longest chain above it first. The function also gets how many jobs are for the crate: more than one if fewer crates can be checked
-    than there is room for. Yields each crate as it ends with what the call returned, or None if a crate below it was false."""
+    and that with the longest chain above it first. Yields each crate as it ends with what the call returned, or None if a crate below it was false."""
     lines, most = chains(crates, wanted), at_once()
     left, ended, running = sorted(lines, key=lambda it: -lines[it]), {}, {}
     with concurrent.futures.ThreadPoolExecutor(most) as pool:
@@ -97,8 +96,7 @@ def in_order(crates, wanted, call):
             ready = [it for it in left if all(ended.get(one) for one in below(crates, it) & set(wanted))]
             for crate in ready[: most - len(running)]:
                 left.remove(crate)
-                running[pool.submit(call, crate, max(1, (most - len(running)) // len(ready)))] = crate
-                ready.remove(crate)
+                running[pool.submit(call, crate)] = crate
             for crate in [it for it in left if any(one in ended and not ended[one] for one in below(crates, it) & set(wanted))]:
                 left.remove(crate)
                 ended[crate] = None
@@ -169,15 +167,24 @@ def difference_of_run(crate, program):
     return "" if came == wanted_of(crate) else f"the program ends with status {status} and prints\n{printed.decode(errors='replace')}"
 
 
-def take_copy(names, top, room):
-    """Makes a repository of these crates alone: a copy of their sources, and their libraries as they are proved."""
+def take_sources(names, top, room):
+    """Makes a repository of the sources of these crates alone, without their wrong bodies."""
     for name in names:
-        source, target = os.path.join(top, "crates", name), os.path.join(room, "crates", name)
-        shutil.copytree(source, target, ignore=lambda _, names: {"out", "must-fail", "more-wrong-bodies"} & set(names))
-        if os.path.isdir(os.path.join(source, "out", "rlib")):
-            shutil.copytree(os.path.join(source, "out", "rlib"), os.path.join(target, "out", "rlib"), copy_function=link_or_copy)
+        shutil.copytree(os.path.join(top, "crates", name), os.path.join(room, "crates", name),
+                        ignore=lambda _, names: {"out", "must-fail", "more-wrong-bodies"} & set(names))
     with open(os.path.join(top, "crates.txt"), encoding="utf-8") as listed, open(os.path.join(room, "crates.txt"), "w", encoding="utf-8") as file:
         file.writelines(line for line in listed if line.partition(":")[0].strip() in names)
+    if os.path.isfile(os.path.join(top, "HANDLES")):
+        shutil.copy2(os.path.join(top, "HANDLES"), room)
+
+
+def take_copy(names, top, room):
+    """Makes a repository of these crates alone: a copy of their sources, and their libraries as they are proved."""
+    take_sources(names, top, room)
+    for name in names:
+        source = os.path.join(top, "crates", name, "out", "rlib")
+        if os.path.isdir(source):
+            shutil.copytree(source, os.path.join(room, "crates", name, "out", "rlib"), copy_function=link_or_copy)
 
 
 def room_for(what):
@@ -204,19 +211,19 @@ def set_apart(crates, name):
                 shutil.move(theirs, mine)
 
 
-def build_libraries(crates, wanted):
-    """Proves and builds these libraries over what was kept, and returns whether all were, printing what was not."""
-    printed, seconds = {}, {}
-
-    def build(crate, jobs):
-        begin = time.monotonic()
-        with set_apart(crates, crate) as top:
-            status, printed[crate] = rt(crate, "lib", "--jobs", str(jobs), top=top)
-        seconds[crate] = round(time.monotonic() - begin)
-        return status == 0
-
-    well = True
-    for crate, is_built in in_order(crates, wanted, build):
-        print(f"{crate} is proved, {seconds[crate]} s" if is_built else f"{printed.get(crate, '')}{crate} is not proved", flush=True)
-        well = well and bool(is_built)
-    return well
+def prove(room):
+    """Proves the crates of a repository by `rt ci`, whose libraries stay in it, and returns its status. Prints a line for each crate, and all that `rt ci`
+    printed if something is wrong."""
+    # rt ci takes the top of a repository alone, and counts on more memory for a check than one takes here
+    os.makedirs(os.path.join(room, ".git"), exist_ok=True)
+    how = {"cwd": room, "env": {**os.environ, "RT_JOBS": str(at_once())}, "stdin": subprocess.DEVNULL, "text": True, "errors": "replace"}
+    printed = []
+    with subprocess.Popen([RT, "ci"], stdout=subprocess.PIPE, stderr=subprocess.STDOUT, **how) as ci:
+        for line in ci.stdout:
+            printed.append(line)
+            said = re.match(r"rt: (\w+ (?:proved|is kept))", line)
+            if said:
+                print(said[1], flush=True)
+    if ci.returncode:
+        print("".join(printed), end="", flush=True)
+    return ci.returncode
