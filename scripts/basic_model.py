@@ -174,7 +174,7 @@ WORKED = (
 )
 
 
-def answer(start, text):
+def outcome(start, text):
     try:
         return crunch(start, text).hex(" ")
     except Fault as fault:
@@ -182,6 +182,6 @@ def answer(start, text):
 
 
 if __name__ == "__main__":
-    differences = [(start, text) for start, text, wanted in WORKED if answer(start, text) != wanted]
+    differences = [(start, text) for start, text, wanted in WORKED if outcome(start, text) != wanted]
     print(f"{len(WORKED)} worked examples, {len(differences)} differences", *differences, sep="\n")
     raise SystemExit(1 if differences else 0)

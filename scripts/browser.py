@@ -39,7 +39,7 @@ class Browser:
                                         stdin=subprocess.DEVNULL, stdout=subprocess.DEVNULL, stderr=subprocess.DEVNULL)
         os.close(its_input)
         os.close(its_output)
-        self.count, self.rest, self.told, self.page = 0, b"", [], None
+        self.count, self.rest, self.events, self.page = 0, b"", [], None
         target = next(target for target in self.ask("Target.getTargets")["targetInfos"] if target["type"] == "page")
         self.page = self.ask("Target.attachToTarget", targetId=target["targetId"], flatten=True)["sessionId"]
         for domain in ("Page", "Runtime", "Log", "Network"):
@@ -64,7 +64,7 @@ class Browser:
         while True:
             message = self.next_message(end)
             if message.get("id") != self.count:
-                self.told.append((message.get("method"), message.get("params", {})))
+                self.events.append((message.get("method"), message.get("params", {})))
             elif "error" in message:
                 raise Silence(f"{what}: {message['error']}")
             else:
@@ -73,7 +73,7 @@ class Browser:
     def next_message(self, end):
         while b"\x00" not in self.rest:
             if not select.select([self.input], [], [], max(end - time.monotonic(), 0))[0]:
-                raise Silence("the browser doesn't answer")
+                raise Silence("the browser doesn't reply")
             piece = os.read(self.input, 1 << 20)
             if not piece:
                 raise Silence("the browser has ended")
@@ -84,7 +84,7 @@ class Browser:
     def open(self, address):
         """Opens a page anew, and waits until all of it is there."""
         self.ask("Page.navigate", url="about:blank")
-        self.told.clear()
+        self.events.clear()
         self.ask("Page.navigate", url=address)
         end = time.monotonic() + SECONDS
         while self.value("location.href === 'about:blank' || document.readyState !== 'complete'"):
@@ -93,10 +93,10 @@ class Browser:
 
     def value(self, script):
         """What a script gives in the page."""
-        answer = self.ask("Runtime.evaluate", expression=script, returnByValue=True, awaitPromise=True)
-        if "exceptionDetails" in answer:
-            raise Silence(f"{script}: {answer['exceptionDetails']}")
-        return answer["result"].get("value")
+        reply = self.ask("Runtime.evaluate", expression=script, returnByValue=True, awaitPromise=True)
+        if "exceptionDetails" in reply:
+            raise Silence(f"{script}: {reply['exceptionDetails']}")
+        return reply["result"].get("value")
 
     def type(self, text):
         """Types a text, letter by letter."""

@@ -460,7 +460,7 @@ class Shell:
         self.images[self.cursor + 1:] = [disk]
         self.cursor += 1
 
-    def answer(self, line):
+    def output_of(self, line):
         """What an accepted line prints."""
         word, *arguments = words_of(line)
         if word not in FEWEST_AND_MOST:
@@ -584,29 +584,29 @@ class Shell:
 
     def run(self, script, stops=False):
         """What a script prints, which ends after the first refused line where `stops` is set."""
-        answers = []
+        printed = []
         for number, line in enumerate(lines_of(script), 1):
             if stops and self.refused:
                 break
             if len(line.removesuffix(b"\n")) > 1_024:
                 self.refused += 1
                 self.refusals.append((number, line))
-                answers.append(status(32))
+                printed.append(status(32))
                 continue
             text = line.removesuffix(b"\r\n").removesuffix(b"\n")
             if text.lstrip(b" ")[:1] in (b"", b";"):
                 continue
             try:
-                answers.append(self.answer(text))
+                printed.append(self.output_of(text))
                 self.accepted += 1
             except Refused as refused:
-                answers.append(refused.status)
+                printed.append(refused.status)
                 self.refused += 1
                 self.refusals.append((number, text))
                 continue
             if words_of(text)[0] == "quit":
                 break
-        return "".join(answers)
+        return "".join(printed)
 
 
 def lines_of(script):

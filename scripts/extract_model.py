@@ -111,14 +111,14 @@ def extracted(name, data, into=b".", in_part=False, refuses=lambda name, content
 
 def lines(form, name, rows):
     """What is printed of an image in JSON or CSV."""
-    told = told_in(form)
+    named = names_in(form)
     if form == "json":
-        return "".join(model.json_line({"image": told(name), **file, "file": path and told(path)}) for file, path in rows)
-    return "".join(model.csv_line([*({"image": told(name), **file, "why": " ".join(file["why"]), "conditions": " ".join(map(str, file["conditions"])),
-                                      "file": path and told(path)}[column] for column in COLUMNS), None]) for file, path in rows)
+        return "".join(model.json_line({"image": named(name), **file, "file": path and named(path)}) for file, path in rows)
+    return "".join(model.csv_line([*({"image": named(name), **file, "why": " ".join(file["why"]), "conditions": " ".join(map(str, file["conditions"])),
+                                      "file": path and named(path)}[column] for column in COLUMNS), None]) for file, path in rows)
 
 
-def told_in(form):
+def names_in(form):
     """The names of the host as a form has them."""
     return model.in_json if form == "json" else model.in_csv
 
@@ -129,7 +129,7 @@ def header(form):
 
 def error_lines(form, name, error, length=None):
     """What is printed of an image that isn't reported, for this error."""
-    image = told_in(form)(name)
+    image = names_in(form)(name)
     if form == "csv":
         return model.csv_line([image, *[None] * (len(COLUMNS) - 1), error])
     return model.json_line({"image": image, "error": error, **({"length": length} if length is not None else {})}) if form == "json" else ""

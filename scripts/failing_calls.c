@@ -36,7 +36,7 @@ static char paths[MOST_FILES][MOST_PATH] = {"0", "1", "2"};
 
 static void end(void) { kill(getpid(), SIGKILL); for (;;) pause(); }
 
-static void tell(const char *name, const char *path)
+static void log_call(const char *name, const char *path)
 {
     const char *log = getenv("SWEEP_LOG");
     char line[1024];
@@ -54,7 +54,7 @@ static int turn(const char *name, const char *path, int is_on_file)
 {
     const char *at = getenv("SWEEP_AT"), *how = getenv("SWEEP_HOW");
     int is_write = !strcmp(name, "write"), can_be_short = is_write || !strcmp(name, "read");
-    tell(name, path);
+    log_call(name, path);
     calls++;
     if (is_full && is_write) { errno = ENOSPC; return FAIL; }
     if (is_gone && is_on_file) { errno = EIO; return FAIL; }

@@ -23,7 +23,7 @@ class Leftovers:
         self.disk, self.owners, self.free, self.errors = self.survey.disk, self.survey.owners, self.survey.free, self.survey.errors
         self.scratched = [(number, slot) for number, slot in self.survey.slots if not slot.used and slot.first[0] != 0]
 
-    def told(self, way):
+    def members_along(self, way):
         """The members for a way: how many blocks it has, the length and the digest of the data along it, and how many read errors."""
         content = self.disk.content(way.blocks) if way.end == "end" else None
         return {"blocks": len(way.blocks), "bytes": None if content is None else len(content),
@@ -47,10 +47,10 @@ class Leftovers:
 
     def deleted(self, number, slot):
         """The members of the object of a scratched slot, but for the image's name."""
-        told, why = self.told(self.survey.way(slot.first)), self.why[number]
+        along, why = self.members_along(self.survey.way(slot.first)), self.why[number]
         return {"slot": number, "name": to_text(slot.name), "field": slot.data[5:21].hex(), "kind": None, "type": 0, "closed": False, "locked": False,
-                "size": slot.size, "first": model.pair_text(slot.first), "record": None, "blocks": told["blocks"], "side": None, "bytes": told["bytes"],
-                "sha256": told["sha256"], "whole": not why, "why": why, "conditions": [], "read_errors": told["read_errors"]}
+                "size": slot.size, "first": model.pair_text(slot.first), "record": None, "blocks": along["blocks"], "side": None, "bytes": along["bytes"],
+                "sha256": along["sha256"], "whole": not why, "why": why, "conditions": [], "read_errors": along["read_errors"]}
 
     # Chains that no slot leads to
 
@@ -82,11 +82,11 @@ class Leftovers:
 
     def orphan(self, head):
         """The members of the object of a chain, but for the image's name."""
-        told, old = self.told(self.survey.way(head)), self.old_slots.get(head)
+        along, old = self.members_along(self.survey.way(head)), self.old_slots.get(head)
         named = {"name": to_text(old.name), "field": old.data[5:21].hex(), "kind": model.KIND_WORDS[old.kind], "type": old.data[2], "closed": old.closed,
                  "locked": old.locked, "size": old.size} if old else dict.fromkeys(("name", "field", "kind", "type", "closed", "locked", "size"))
-        return {"slot": None, **named, "first": model.pair_text(head), "record": None, "blocks": told["blocks"], "side": None, "bytes": told["bytes"],
-                "sha256": told["sha256"], "whole": None, "why": [], "conditions": [], "read_errors": told["read_errors"]}
+        return {"slot": None, **named, "first": model.pair_text(head), "record": None, "blocks": along["blocks"], "side": None, "bytes": along["bytes"],
+                "sha256": along["sha256"], "whole": None, "why": [], "conditions": [], "read_errors": along["read_errors"]}
 
     # What is printed and written
 
@@ -137,8 +137,8 @@ def columns(options, with_file=False):
 
 def lines(form, name, rows, options, with_file=False):
     """What is printed of rows in JSON or CSV, with the paths of their host files."""
-    told = extract_model.told_in(form)
-    all_members = [{"image": told(name), **row, **({"file": path and told(path)} if with_file else {}), **last} for row, path, last in rows]
+    named = extract_model.names_in(form)
+    all_members = [{"image": named(name), **row, **({"file": path and named(path)} if with_file else {}), **last} for row, path, last in rows]
     if form == "json":
         return "".join(map(model.json_line, all_members))
     texts = ({**members, "why": " ".join(members["why"]), "conditions": " ".join(map(str, members["conditions"]))} for members in all_members)
@@ -149,7 +149,7 @@ def header(form, options, with_file=False):
     return model.csv_line([*columns(options, with_file), "error"]) if form == "csv" else ""
 
 
-def answer(form, name, data, options):
+def output_of(form, name, data, options):
     """What `files` prints of a file in JSON or CSV."""
     if not model.error_of(data):
         return lines(form, name, [(row, None, last) for _, _, row, last in leftovers_of(data).rows(options)], options)

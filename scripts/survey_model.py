@@ -52,10 +52,10 @@ def pair_text(pair):
     return f"{pair[0]}/{pair[1]}"
 
 
-def told_owners(owners):
+def owner_members(owners):
     """The members of an object about some owners."""
-    told = [{key: value for key, value in owner._asdict().items() if value is not None} for owner in owners[:MOST_OWNERS]]
-    return {"owners": told, **({"more": len(owners) - MOST_OWNERS} if len(owners) > MOST_OWNERS else {})}
+    members = [{key: value for key, value in owner._asdict().items() if value is not None} for owner in owners[:MOST_OWNERS]]
+    return {"owners": members, **({"more": len(owners) - MOST_OWNERS} if len(owners) > MOST_OWNERS else {})}
 
 
 @functools.lru_cache(64)
@@ -154,12 +154,12 @@ class Survey:
     def shared(self):
         for pair in self.disk.pairs:
             if len(self.owners.get(pair, ())) > 1:
-                yield {"condition": 5, "block": pair_text(pair), **told_owners(self.owners[pair])}
+                yield {"condition": 5, "block": pair_text(pair), **owner_members(self.owners[pair])}
 
     def marked_free(self):
         for pair in self.disk.pairs:
             if pair in self.free and pair in self.owners:
-                yield {"condition": 6, "block": pair_text(pair), **told_owners(self.owners[pair])}
+                yield {"condition": 6, "block": pair_text(pair), **owner_members(self.owners[pair])}
 
     # Read errors
 
@@ -170,7 +170,7 @@ class Survey:
 
     @property
     def read_errors(self):
-        return [{"block": pair_text(pair), "code": code, "status": STATUSES.get(code), **told_owners(self.owners.get(pair, []))}
+        return [{"block": pair_text(pair), "code": code, "status": STATUSES.get(code), **owner_members(self.owners.get(pair, []))}
                 for pair, code in self.errors.items()]
 
     # Files
@@ -274,7 +274,7 @@ class Survey:
         """The characters of each track."""
         return [(track, "".join(self.mark((track, sector)) for sector in range(SECTORS[track]))) for track in range(1, self.tracks + 1)]
 
-    def told(self):
+    def members(self):
         """The members of the object that `check` prints, but for the image's name."""
         head = self.disk.block(MAP)
         counts = self.disk.counts()
@@ -369,7 +369,7 @@ def check_json(name, data, digest=False):
     if error:
         return json_line({**head, "error": error, **({"length": len(data)} if error == "wrong length" else {})})
     survey, digests = survey_of(data), {"sha256": hashlib.sha256(data).hexdigest()} if digest else {}
-    return json_line({**head, **survey.told(), **digests, "doubts": survey.doubts})
+    return json_line({**head, **survey.members(), **digests, "doubts": survey.doubts})
 
 
 def check_csv(name, data, digest=False):
@@ -377,9 +377,9 @@ def check_csv(name, data, digest=False):
     name, error = in_csv(name), error_of(data)
     if error:
         return csv_line([name, *[None] * (len(COLUMNS) + digest), error])
-    told = survey_of(data).told()
-    told.update(image=name, faults=len(told["faults"]), read_errors=len(told["read_errors"]))
-    return csv_line([*(told[column] for column in COLUMNS), *[hashlib.sha256(data).hexdigest()] * digest, " ".join(survey_of(data).doubts), None])
+    members = survey_of(data).members()
+    members.update(image=name, faults=len(members["faults"]), read_errors=len(members["read_errors"]))
+    return csv_line([*(members[column] for column in COLUMNS), *[hashlib.sha256(data).hexdigest()] * digest, " ".join(survey_of(data).doubts), None])
 
 
 def error_json(name, data):
@@ -410,7 +410,7 @@ def header_of(command, digest=False):
     return files_header() if command == "files" else csv_header(digest)
 
 
-def answer_of(command, form, name, data, digest=False):
+def output_of(command, form, name, data, digest=False):
     """What a command prints of a file in JSON or CSV."""
     if command == "files":
         return (files_json if form == "json" else files_csv)(name, data)
@@ -423,7 +423,7 @@ def diff_json(old_name, old, new_name, new):
     if missing:
         return "".join(missing)
     lines, before, after = [], survey_of(old), survey_of(new)
-    heads = [{key: survey.told()[key] for key in ("tracks", "codes", "name", "id", "dos", "free")} for survey in (before, after)]
+    heads = [{key: survey.members()[key] for key in ("tracks", "codes", "name", "id", "dos", "free")} for survey in (before, after)]
     if heads[0] != heads[1]:
         lines.append({"change": "disk", "old": heads[0], "new": heads[1]})
     files = [{file["slot"]: {key: value for key, value in file.items() if key != "slot"} for file in survey.files} for survey in (before, after)]
@@ -477,36 +477,36 @@ def lines_of_faults(survey):
     return lines
 
 
-def is_fault_line(line, told):
+def is_fault_line(line, members):
     """Whether a line may be about a fault: it has the track, the name or the block. Of the faults beyond the tenth it is their line."""
-    if isinstance(told, str):
-        return line == told
-    what = {1: f'track {told.get("track")}:', 2: "the directory", 3: f'"{told.get("name")}"', 4: f'"{told.get("name")}"'}.get(told["condition"])
-    return line.startswith(f"  {what or told['block'] + ' '}") or told["condition"] == 4 and line.startswith(f"  the side sectors of {what}")
+    if isinstance(members, str):
+        return line == members
+    what = {1: f'track {members.get("track")}:', 2: "the directory", 3: f'"{members.get("name")}"', 4: f'"{members.get("name")}"'}.get(members["condition"])
+    return line.startswith(f"  {what or members['block'] + ' '}") or members["condition"] == 4 and line.startswith(f"  the side sectors of {what}")
 
 
 def is_of_unowned(line, data):
     """Whether a line may be about the blocks that are marked used and belong to nobody, which the first line doesn't say: it may be left out."""
-    told = survey_of(data).told()
-    return told["amiss"] and "unowned" not in survey_of(data).doubts and told["unowned"] > 0 and numbers_in(line)[:1] == [told["unowned"]]
+    members = survey_of(data).members()
+    return members["amiss"] and "unowned" not in survey_of(data).doubts and members["unowned"] > 0 and numbers_in(line)[:1] == [members["unowned"]]
 
 
 def is_first_line(line, name, data):
     """Whether a line may be the first about a dump."""
-    survey, told = survey_of(data), survey_of(data).told()
-    is_clean = told["sound"] and not survey.errors and not survey.not_whole
+    survey, members = survey_of(data), survey_of(data).members()
+    is_clean = members["sound"] and not survey.errors and not survey.not_whole
     line, doubtful, doubts = line.partition(f", {'but' if is_clean else 'and'} doubtful: ")
     begin, _, end = line.rpartition(": ")
-    head = f'{shown(name)}: "{told["name"]}" {told["id"]}'
+    head = f'{shown(name)}: "{members["name"]}" {members["id"]}'
     counts = [count for count in (len(survey.faults), len(survey.errors), survey.not_whole) if count]
-    is_told = begin.startswith(head) and numbers_in(begin[len(head):]) == [told["entries"], told["free"]]
-    is_told = is_told and end.startswith("sound") == told["sound"] and numbers_in(end) == counts
-    return is_told and bool(doubtful) == bool(survey.doubts) and are_doubts(doubts, survey)
+    is_begun_well = begin.startswith(head) and numbers_in(begin[len(head):]) == [members["entries"], members["free"]]
+    is_begun_well = is_begun_well and end.startswith("sound") == members["sound"] and numbers_in(end) == counts
+    return is_begun_well and bool(doubtful) == bool(survey.doubts) and are_doubts(doubts, survey)
 
 
 def are_doubts(text, survey):
     """Whether a text may say what makes a disk doubtful: it says each doubt, and of the blocks that nobody owns how many there are."""
-    unowned = survey.told()["unowned"]
+    unowned = survey.members()["unowned"]
     is_counted = "unowned" not in survey.doubts or re.search(rf"\b{unowned} blocks? (are|is) marked used", text) is not None
     said = [word for word, phrase in DOUBTS.items() if phrase in text.replace("is marked used and belongs", "are marked used and belong")]
     return is_counted and said == survey.doubts
@@ -534,11 +534,11 @@ def difference_of_picture(data, text):
     if any(element.tag in (SVG + "script", SVG + "image", SVG + "a") or "href" in key for element in root.iter() for key in ("", *element.attrib)):
         return "the picture fetches or runs something"
     titles = [title.text for element in root.iter() if element is not root for title in element.findall(SVG + "title")]
-    told = dict(title.split(": ", 1) for title in titles)
-    if len(titles) != len(told) or list(told) != list(map(pair_text, survey.disk.pairs)):
+    members = dict(title.split(": ", 1) for title in titles)
+    if len(titles) != len(members) or list(members) != list(map(pair_text, survey.disk.pairs)):
         return f"the picture has {len(titles)} titles of blocks"
-    return next((f"of {pair} the picture says {told[pair_text(pair)]!r}" for pair in survey.disk.pairs
-                 if not WORDS_OF_MARKS[survey.mark(pair)](told[pair_text(pair)])), None)
+    return next((f"of {pair} the picture says {members[pair_text(pair)]!r}" for pair in survey.disk.pairs
+                 if not WORDS_OF_MARKS[survey.mark(pair)](members[pair_text(pair)])), None)
 
 
 # What came of a run
