@@ -72,11 +72,11 @@ def chains(crates, wanted):
     return {name: chain(name) for name in crates if name in wanted}
 
 
-def at_once():
-    """How many checks run side by side: one a processor, as far as memory goes."""
+def at_once(others=0):
+    """How many checks run side by side: one a processor, as far as memory goes, in which there is room for this many others."""
     with open("/proc/meminfo", encoding="ascii") as file:
         free = next(1024 * int(line.split()[1]) for line in file if line.startswith("MemAvailable:"))
-    return max(1, min(len(os.sched_getaffinity(0)), free // MEMORY))
+    return max(1, min(len(os.sched_getaffinity(0)), free // MEMORY - others))
 
 
 def rt(crate, *words, top=TOP, **how):
@@ -211,14 +211,20 @@ def set_apart(crates, name):
                 shutil.move(theirs, mine)
 
 
+def rt_ci(folder, others=0, **how):
+    """Starts `rt ci` in a folder, with as many checks side by side as there are processors, as far as memory goes, in which there is room for this many others.
+    By itself it counts on more than twice the memory that a check takes here, and leaves processors idle."""
+    return subprocess.Popen([RT, "ci"], cwd=folder, env={**os.environ, "RT_JOBS": str(at_once(others))}, stdin=subprocess.DEVNULL, stdout=subprocess.PIPE,
+                            text=True, errors="replace", **how)
+
+
 def prove(room):
     """Proves the crates of a repository by `rt ci`, whose libraries stay in it, and returns its status. Prints a line for each crate, and all that `rt ci`
     printed if something is wrong."""
-    # rt ci takes the top of a repository alone, and counts on more memory for a check than one takes here
+    # rt ci takes the top of a repository alone
     os.makedirs(os.path.join(room, ".git"), exist_ok=True)
-    how = {"cwd": room, "env": {**os.environ, "RT_JOBS": str(at_once())}, "stdin": subprocess.DEVNULL, "text": True, "errors": "replace"}
     printed = []
-    with subprocess.Popen([RT, "ci"], stdout=subprocess.PIPE, stderr=subprocess.STDOUT, **how) as ci:
+    with rt_ci(room, stderr=subprocess.STDOUT) as ci:
         for line in ci.stdout:
             printed.append(line)
             said = re.match(r"rt: (\w+ (?:proved|is kept))", line)
