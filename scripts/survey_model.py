@@ -499,9 +499,9 @@ def is_first_line(line, name, data):
     begin, _, end = line.rpartition(": ")
     head = f'{shown(name)}: "{members["name"]}" {members["id"]}'
     counts = [count for count in (len(survey.faults), len(survey.errors), survey.not_whole) if count]
-    is_begun_well = begin.startswith(head) and numbers_in(begin[len(head):]) == [members["entries"], members["free"]]
-    is_begun_well = is_begun_well and end.startswith("sound") == members["sound"] and numbers_in(end) == counts
-    return is_begun_well and bool(doubtful) == bool(survey.doubts) and are_doubts(doubts, survey)
+    is_right = begin.startswith(head) and numbers_in(begin[len(head):]) == [members["entries"], members["free"]]
+    is_right = is_right and end.startswith("sound") == members["sound"] and numbers_in(end) == counts
+    return is_right and bool(doubtful) == bool(survey.doubts) and are_doubts(doubts, survey)
 
 
 def are_doubts(text, survey):
