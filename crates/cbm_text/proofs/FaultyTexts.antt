@@ -10,10 +10,10 @@ use Rattle.cbm_text.specs.declared.fault.BasicFault.TheVariants.{NoNumber, Numbe
 use Rattle.cbm_text.specs.declared.cause.Cause.{Cause}
 use Rattle.cbm_text.specs.declared.faulty_text.FaultyLine.{FaultyLine}
 use Rattle.cbm_text.specs.Program.{ProgramLine, address_behind}
-use Rattle.cbm_text.specs.BasicText.{IsLine, HasFault, IsBasicOutOfMemory, TellsLine}
+use Rattle.cbm_text.specs.BasicText.{IsLine, HasFault, IsBasicOutOfMemory, NamesLine}
 use Rattle.cbm_text.specs.Causes.{IsCause}
 use Rattle.cbm_text.specs.FaultyLines.{AreFaulty, AreFaultyIn, IsFaulty, IsNoted}
-use Rattle.cbm_text.proofs.TextPrograms.{tells_line}
+use Rattle.cbm_text.proofs.TextPrograms.{names_line}
 
 -- the faulty lines that were found in a text, of which the first ones are kept, and the raw
 -- lines that are left: with the faulty ones of these they are those of the text
@@ -21,7 +21,7 @@ pub record FaultySoFar (start at place most count : ℕ) (text : List ℕ) (kept
   pub found : List FaultyLine
   pub gives : (more : List FaultyLine) → AreFaulty at (place + 1) raws more → AreFaultyIn start text (found ++ more)
   pub first : kept ≡ take most found
-  pub places : All (λ (line : FaultyLine). TellsLine text line.fault) kept
+  pub places : All (λ (line : FaultyLine). NamesLine text line.fault) kept
   pub few : place + length raws ≡ length (lines_of text)
   pub counted : count ≡ length found
   pub within : count ≤ place
@@ -51,7 +51,7 @@ so_far_none start most text kept none = record {
   found = [];
   gives = λ more given. given;
   first = none ∙ sym (take_nothing most);
-  places = subst (λ (l : List FaultyLine). All (λ (line : FaultyLine). TellsLine text line.fault) l) (sym none) (λ k d within. absurd (no_element k within));
+  places = subst (λ (l : List FaultyLine). All (λ (line : FaultyLine). NamesLine text line.fault) l) (sym none) (λ k d within. absurd (no_element k within));
   few = omega arith;
   counted = refl;
   within = omega arith;
@@ -120,11 +120,11 @@ full (suc n) (x ∷ xs) more is = ap (λ l. x ∷ l) (full n xs more (omega (ari
 
 -- a faulty line's fault is at one of the text's lines
 abbrev is_placed : List ℕ → FaultyLine → Type 0
-is_placed text faulty = TellsLine text faulty.fault
+is_placed text faulty = NamesLine text faulty.fault
 
 -- a faulty line
 pub so_far_fault : (start at place most count : ℕ) (text raw : List ℕ) (kept new : List FaultyLine) (old raws : List (List ℕ)) (line : FaultyLine) → FaultySoFar start at place most count text kept old → old ≡ raw ∷ raws
-    → is_skipped (text_of raw) ≡ false → IsFaulty at (place + 1) (text_of raw) line → TellsLine text line.fault → new ≡ take most (kept ++ line ∷ []) → FaultySoFar start at (place + 1) most (count + 1) text new raws
+    → is_skipped (text_of raw) ≡ false → IsFaulty at (place + 1) (text_of raw) line → NamesLine text line.fault → new ≡ take most (kept ++ line ∷ []) → FaultySoFar start at (place + 1) most (count + 1) text new raws
 so_far_fault start at place most count text raw kept new old raws line so_far cut unskipped faulty placed is = record {
   found = so_far.found ++ line ∷ [];
   gives = λ more given.
@@ -165,7 +165,7 @@ so_far_noted start at next place most count more text raw kept new old raws (Err
       shown = shown;
     } in
     let within : place + 1 ≤ length (lines_of text) = omega (arith, so_far.few, ap length cut) in
-    let placed : TellsLine text line.fault = tells_line at (place + 1) text (text_of raw) line.fault (omega arith) within (inr faulty.fault) in
+    let placed : NamesLine text line.fault = names_line at (place + 1) text (text_of raw) line.fault (omega arith) within (inr faulty.fault) in
     subst (λ (n : ℕ). FaultySoFar start next (place + 1) most n text new raws) (sym one_more)
     (subst (λ (n : ℕ). FaultySoFar start n (place + 1) most (count + 1) text new raws) (sym is_at)
     (so_far_fault start at place most count text raw kept new old raws line so_far cut unskipped faulty placed is))

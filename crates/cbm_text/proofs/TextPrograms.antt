@@ -11,7 +11,7 @@ use Rattle.cbm_text.specs.declared.fault.BasicFault.TheVariants.{NoNumber, Numbe
 use Rattle.cbm_text.specs.Crunching.{Crunched}
 use Rattle.cbm_text.specs.Modes.{CrunchesUpTo}
 use Rattle.cbm_text.specs.Program.{ProgramLine, Program, word, line_layout, lines_layout, address_behind}
-use Rattle.cbm_text.specs.BasicText.{IsLine, IsTextLineRead, IsTooLong, HasFault, AreLines, FaultsFirst, IsFileOf, IsFirstBasicFault, IsBasicOutOfMemory, TellsLine}
+use Rattle.cbm_text.specs.BasicText.{IsLine, IsTextLineRead, IsTooLong, HasFault, AreLines, FaultsFirst, IsFileOf, IsFirstBasicFault, IsBasicOutOfMemory, NamesLine}
 
 -- what has been crunched of a text, and the raw lines that are left: what these give completes the
 -- file, and their first fault is the text's
@@ -101,29 +101,29 @@ so_far_fault start at place text file raw old raws fault so_far cut kept here =
     so_far.faults fault (subst (λ (w : List (List ℕ)). FaultsFirst at (place + 1) w fault) (sym cut) (here_faults at (place + 1) raw raws fault kept here))
 
 -- a fault of the line at a place of the text has this place
-pub tells_line : (at place : ℕ) (text line : List ℕ) (fault : BasicFault) → 1 ≤ place → place ≤ length (lines_of text) → IsBasicOutOfMemory fault ⊎ HasFault at place line fault → TellsLine text fault
-tells_line at place text line fault low high (inl memory) = none fault memory
+pub names_line : (at place : ℕ) (text line : List ℕ) (fault : BasicFault) → 1 ≤ place → place ≤ length (lines_of text) → IsBasicOutOfMemory fault ⊎ HasFault at place line fault → NamesLine text fault
+names_line at place text line fault low high (inl memory) = none fault memory
   where
-    none : (fault : BasicFault) → IsBasicOutOfMemory fault → TellsLine text fault
-    none (NoNumber told) memory = absurd memory
-    none (NumberTooLarge told) memory = absurd memory
-    none (Text told why) memory = absurd memory
-    none (TokenByte told) memory = absurd memory
-    none (ZeroByte told) memory = absurd memory
-    none (TooLong told) memory = absurd memory
+    none : (fault : BasicFault) → IsBasicOutOfMemory fault → NamesLine text fault
+    none (NoNumber known) memory = absurd memory
+    none (NumberTooLarge known) memory = absurd memory
+    none (Text known why) memory = absurd memory
+    none (TokenByte known) memory = absurd memory
+    none (ZeroByte known) memory = absurd memory
+    none (TooLong known) memory = absurd memory
     none (Memory error) memory = memory
-tells_line at place text line fault low high (inr here) = it fault here
+names_line at place text line fault low high (inr here) = it fault here
   where
-    within : (told : ℕ) → told ≡ place → (1 ≤ told) × (told ≤ length (lines_of text)) × (told ≤ length text)
-    within told is = (omega arith, omega arith, omega (arith, length-lines_of text))
+    within : (known : ℕ) → known ≡ place → (1 ≤ known) × (known ≤ length (lines_of text)) × (known ≤ length text)
+    within known is = (omega arith, omega arith, omega (arith, length-lines_of text))
 
-    it : (fault : BasicFault) → HasFault at place line fault → TellsLine text fault
-    it (NoNumber told) here = within told here.0
-    it (NumberTooLarge told) here = within told here.0
-    it (Text told why) here = within told here.0
-    it (TokenByte told) here = within told here.0
-    it (ZeroByte told) here = within told here.0
-    it (TooLong told) here = within told here.0
+    it : (fault : BasicFault) → HasFault at place line fault → NamesLine text fault
+    it (NoNumber known) here = within known here.0
+    it (NumberTooLarge known) here = within known here.0
+    it (Text known why) here = within known here.0
+    it (TokenByte known) here = within known here.0
+    it (ZeroByte known) here = within known here.0
+    it (TooLong known) here = within known here.0
     it (Memory error) here = absurd here
 
 -- behind the last line

@@ -24,7 +24,7 @@ use Rattle.cbm_text.specs.Modes.{listing}
 use Rattle.cbm_text.specs.TextLine.{line_number, rest_of}
 use Rattle.cbm_text.specs.BasicText.{IsNumbered, IsTextLineRead, IsCrunched, IsLine, IsTooLong, HasFault, AreLines, FaultsFirst, IsProgramOf, IsFileOf}
 use Rattle.cbm_text.specs.NormalText.{AreNormal, IsNormalOf}
-use Rattle.cbm_text.specs.Laws.{HasNoFreeQuestion, ReadsOnce, StandsOnce, TextComesBack}
+use Rattle.cbm_text.specs.Laws.{HasNoFreeQuestion, ReadsOnce, IsUnambiguous, TextComesBack}
 use Rattle.cbm_text.proofs.Keywords.{row_of, token_shown}
 use Rattle.cbm_text.proofs.LinesBack.{comes_back, crunches_once, lists_once}
 use Rattle.cbm_text.proofs.ProgramFiles.{no_line, rest_once, listing_of_program}
@@ -178,16 +178,16 @@ is_line_once at text x y is_x is_y =
     same_line x y (is_x.number ∙ sym is_y.number) (crunches_once is_x.bytes x.bytes y.bytes is_x.crunched.crunched (subst (λ (w : List ℕ). Crunched w y.bytes) same is_y.crunched.crunched))
 
 line_no_fault : (at number : ℕ) (text : List ℕ) (line : ProgramLine) (fault : BasicFault) → IsLine at text line → ¬ (HasFault at number text fault)
-line_no_fault at number text line (NoNumber told) is_line (place, none) = is_line.crunched.read.numbered.some none
-line_no_fault at number text line (NumberTooLarge told) is_line (place, some, large) = let small = is_line.crunched.read.numbered.small in omega arith
-line_no_fault at number text line (Text told fault) is_line (place, numbered, first) = no_fault (rest_of text) is_line.bytes fault is_line.crunched.read.read first
-line_no_fault at number text line (TokenByte told) is_line (place, bytes, read, never) =
+line_no_fault at number text line (NoNumber known) is_line (place, none) = is_line.crunched.read.numbered.some none
+line_no_fault at number text line (NumberTooLarge known) is_line (place, some, large) = let small = is_line.crunched.read.numbered.small in omega arith
+line_no_fault at number text line (Text known fault) is_line (place, numbered, first) = no_fault (rest_of text) is_line.bytes fault is_line.crunched.read.read first
+line_no_fault at number text line (TokenByte known) is_line (place, bytes, read, never) =
     let same : is_line.bytes ≡ bytes = one_reading (rest_of text) is_line.bytes bytes is_line.crunched.read.read read.read in
     never line.bytes (subst (λ (w : List ℕ). Crunched w line.bytes) same is_line.crunched.crunched)
-line_no_fault at number text line (ZeroByte told) is_line (place, bytes, codes, crunched_is, zero_in) =
+line_no_fault at number text line (ZeroByte known) is_line (place, bytes, codes, crunched_is, zero_in) =
     let same : bytes ≡ is_line.bytes = one_reading (rest_of text) bytes is_line.bytes crunched_is.read.read is_line.crunched.read.read in
     is_line.no_zero (subst (λ (w : List ℕ). Contains w 0) same zero_in)
-line_no_fault at number text line (TooLong told) is_line (place, bytes, codes, crunched_is, no_zero, long) =
+line_no_fault at number text line (TooLong known) is_line (place, bytes, codes, crunched_is, no_zero, long) =
     let same : bytes ≡ is_line.bytes = one_reading (rest_of text) bytes is_line.bytes crunched_is.read.read is_line.crunched.read.read in
     let codes_same : codes ≡ line.bytes = crunches_once is_line.bytes codes line.bytes (subst (λ (w : List ℕ). Crunched w codes) same crunched_is.crunched) is_line.crunched.crunched in
     too_long codes codes_same long
@@ -290,9 +290,9 @@ text_one_fault at number (raw ∷ raws) a b (inr (kept, inr (line, is_line, late
     let same : line' ≡ line = is_line_once at (text_of raw) line' line is_line' is_line in
     text_one_fault (address_behind at line.bytes) (number + 1) raws a b later (subst (λ (l : ProgramLine). FaultsFirst (address_behind at l.bytes) (number + 1) raws b) same later')
 
-pub stands_once : (start : ℕ) (text : List ℕ) → StandsOnce start text
+pub is_unambiguous : (start : ℕ) (text : List ℕ) → IsUnambiguous start text
 unfolding IsFileOf
-stands_once start text = record {
+is_unambiguous start text = record {
   program = texts_once start (lines_of text);
   file = λ file other (program, lines, is) (program', lines', is'). is ∙ ap (λ (p : Program). layout start p) (texts_once start (lines_of text) program program' lines lines') ∙ sym is';
   no_fault = λ file fault (program, lines, is) first. text_no_fault start 1 (lines_of text) program fault lines first;

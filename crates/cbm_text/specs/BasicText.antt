@@ -107,5 +107,5 @@ basic_fault_line (Memory error) = None
 
 -- The line of a fault is one of the text's lines, the first of which is 1, and a text has no more
 -- lines than bytes. The fault that memory is out has no line.
-abbrev pub TellsLine : List ℕ → BasicFault → Type 0
-TellsLine text fault = MatchOption (basic_fault_line fault) (IsBasicOutOfMemory fault) (λ line. (1 ≤ line) × (line ≤ length (lines_of text)) × (line ≤ length text))
+abbrev pub NamesLine : List ℕ → BasicFault → Type 0
+NamesLine text fault = MatchOption (basic_fault_line fault) (IsBasicOutOfMemory fault) (λ line. (1 ≤ line) × (line ≤ length (lines_of text)) × (line ≤ length text))

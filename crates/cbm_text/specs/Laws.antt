@@ -39,7 +39,7 @@ pub record ReadsOnce (file : List ℕ) : Type 0 where
 
 -- A text stands for at most one program and has at most one file, no fault if it has a file, and at
 -- most one first fault.
-pub record StandsOnce (start : ℕ) (text : List ℕ) : Type 0 where
+pub record IsUnambiguous (start : ℕ) (text : List ℕ) : Type 0 where
   pub program : (program other : Program) → IsProgramOf start text program → IsProgramOf start text other → program ≡ other
   pub file : (file other : List ℕ) → IsFileOf start text file → IsFileOf start text other → file ≡ other
   pub no_fault : (file : List ℕ) (fault : BasicFault) → IsFileOf start text file → ¬ (IsFirstBasicFault start text fault)

@@ -1,7 +1,7 @@
 //! BASIC texts as program files.
 
 ghost use Rattle.std.specs.Prelude.{◌≡◌, ◌⊎◌, ◌++◌, ℕ, IfOk, IfErr, MatchResult, ◌<◌};
-ghost use Rattle.cbm_text.specs.BasicText.{IsFileOf, IsFirstBasicFault, IsBasicOutOfMemory, IsLine, HasFault, TellsLine};
+ghost use Rattle.cbm_text.specs.BasicText.{IsFileOf, IsFirstBasicFault, IsBasicOutOfMemory, IsLine, HasFault, NamesLine};
 ghost use Rattle.cbm_text.specs.Program.{ProgramLine, line_layout, address_behind};
 
 use crate::codes::{MOST_BYTES, crunch_bytes};
@@ -33,7 +33,7 @@ const AROUND_BYTES: usize = 5;
 pub fn crunch(alloc: Global, start: u16, text: &[u8]) -> Result<Vec<u8>, BasicFault>
     ensures crunched { IfOk result (λ file. IsFileOf start text.now file.items) }
     ensures fault { IfErr result (λ fault. IsBasicOutOfMemory fault ⊎ IsFirstBasicFault start text.now fault) }
-    ensures place { IfErr result (TellsLine text.now) }
+    ensures place { IfErr result (NamesLine text.now) }
 {
     let mut file = Vec::with_capacity(alloc, text.len())?;
     push_word(&mut file, start)?;

@@ -1,7 +1,7 @@
 //! The faulty lines of a BASIC text.
 
 ghost use Rattle.std.specs.Prelude.{◌≡◌, ◌≤◌, List, All, IfOk, length, take};
-ghost use Rattle.cbm_text.specs.BasicText.{TellsLine};
+ghost use Rattle.cbm_text.specs.BasicText.{NamesLine};
 ghost use Rattle.cbm_text.specs.FaultyLines.{AreFaultyIn, IsNoted};
 
 use crate::cause::{Cause, cause_of};
@@ -37,7 +37,7 @@ pub fn faulty_lines<'t>(
     most: usize,
 ) -> Result<FaultyLines<'t>, AllocError>
     ensures faulty { IfOk result (λ found. (all : List FaultyLine) × AreFaultyIn start text.now all × (found.lines.items ≡ take most all) × (found.count ≡ length all)) }
-    ensures places { IfOk result (λ found. All (λ line. TellsLine text.now line.fault) found.lines.items) }
+    ensures places { IfOk result (λ found. All (λ line. NamesLine text.now line.fault) found.lines.items) }
 {
     let mut file = Vec::new(alloc);
     let mut lines = Vec::new(alloc);

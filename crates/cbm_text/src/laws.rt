@@ -1,6 +1,6 @@
 //! Laws of crunching and listing: empty functions, whose contracts are the laws.
 
-ghost use Rattle.cbm_text.specs.Laws.{ComesBack, CrunchesOnce, ListsOnce, ReadsOnce, StandsOnce, TextComesBack};
+ghost use Rattle.cbm_text.specs.Laws.{ComesBack, CrunchesOnce, ListsOnce, ReadsOnce, IsUnambiguous, TextComesBack};
 
 /// The bytes of a line crunch in at most one way, and crunched bytes stand for one list of bytes.
 /// If no `?` stands for `print` in the bytes of a line, what they crunch to stands for these very
@@ -18,7 +18,7 @@ pub fn line_comes_back(bytes: &[u8], codes: &[u8])
 #[inline]
 pub fn one_program(start: u16, text: &[u8], file: &[u8])
     ensures of_file { ReadsOnce file.now }
-    ensures of_text { StandsOnce start text.now }
+    ensures of_text { IsUnambiguous start text.now }
 {}
 
 /// If no `?` stands for `print` in a text that crunches, its file can be listed, its listing is the

@@ -11,17 +11,17 @@ use Rattle.program_console.specs.Outside.{Outside, outside_of}
 use Rattle.out_messages.specs.Words.{counted_text}
 use Rattle.cmd_basic.specs.RefusedText.{faulty_line, more_lines, most_refused_lines, refused_text}
 use Rattle.cmd_basic.specs.ToolRuns.{EndedToolTo, RanToolOn, ReportsStored, TakesInput}
-use Rattle.cmd_basic.specs.Tools.{HasStored, Refuses, answer_of_store, fault_of_store}
+use Rattle.cmd_basic.specs.Tools.{HasStored, Refuses, outcome_of_store, fault_of_store}
 use Rattle.cmd_basic.specs.declared.tools.Tool.{Tool}
 use Rattle.cmd_basic.specs.declared.tools.Tool.TheVariants.{Petcat, Crunch}
 use Rattle.cmd_basic.specs.declared.tools.ToolFault.{ToolFault}
 use Rattle.cmd_basic.specs.declared.tools.ToolFault.TheVariants.{Read, Write, Memory, Text, NotBasic}
 
 -- what a tool has done on the input or a file it has done whatever is reported of it
-pub ran_reported : {A : Type 0} (tool : Tool) (name : Option (List ℕ)) (old : Outside) (reader : Option (List ℕ)) (reading : Reading) (output before after : Account) (host : HostState) (answer : Result A ToolFault)
-    → RanToolOn tool name old (outside_of reader reading output before host) answer → RanToolOn tool name old (outside_of reader reading output after host) answer
-ran_reported tool None old reader reading output before after host answer ran = ran
-ran_reported tool (Some name) old reader reading output before after host answer ran = ran
+pub ran_reported : {A : Type 0} (tool : Tool) (name : Option (List ℕ)) (old : Outside) (reader : Option (List ℕ)) (reading : Reading) (output before after : Account) (host : HostState) (outcome : Result A ToolFault)
+    → RanToolOn tool name old (outside_of reader reading output before host) outcome → RanToolOn tool name old (outside_of reader reading output after host) outcome
+ran_reported tool None old reader reading output before after host outcome ran = ran
+ran_reported tool (Some name) old reader reading output before after host outcome ran = ran
 
 -- a tool has not had its input, and stored nothing
 pub ended_without_input : (tool : Tool) (name : Option (List ℕ)) (target : List ℕ) (old new : Outside) (status : ℕ) (fault : ToolFault)
@@ -35,17 +35,17 @@ ended_without_input tool name target old new status fault takes output due repor
   reports,
 )
   where
-    same_fault : (answer : Result (Unit {0}) ToolFault) (a b : ToolFault) → answer ≡ Err a → answer ≡ Err b → a ≡ b
-    same_fault answer a b is other = cc
+    same_fault : (outcome : Result (Unit {0}) ToolFault) (a b : ToolFault) → outcome ≡ Err a → outcome ≡ Err b → a ≡ b
+    same_fault outcome a b is other = cc
 
 -- it has had its input, and stored what it made of it, or not
-pub ended_with_input : (tool : Tool) (name : Option (List ℕ)) (target : List ℕ) (old new : Outside) (host : HostState) (status : ℕ) (bytes : List ℕ) (answer : Result (Unit {0}) ToolFault)
-    → TakesInput name old.reader new.reader old.host host (Ok bytes) → HasStored tool bytes target host new.host answer → (answer ≡ Err Read → ⊥)
-    → new.output ≡ old.output → ReportsStored tool name bytes target new.host.files answer old.error new.error status
+pub ended_with_input : (tool : Tool) (name : Option (List ℕ)) (target : List ℕ) (old new : Outside) (host : HostState) (status : ℕ) (bytes : List ℕ) (outcome : Result (Unit {0}) ToolFault)
+    → TakesInput name old.reader new.reader old.host host (Ok bytes) → HasStored tool bytes target host new.host outcome → (outcome ≡ Err Read → ⊥)
+    → new.output ≡ old.output → ReportsStored tool name bytes target new.host.files outcome old.error new.error status
     → EndedToolTo tool name target old new status
-ended_with_input tool name target old new host status bytes answer takes stored unread output reports = (
+ended_with_input tool name target old new host status bytes outcome takes stored unread output reports = (
   Ok bytes,
-  answer,
+  outcome,
   record { host = host; takes = takes; stores = stored; output = output },
   (λ none is. absurd (unread is)),
   reports,
@@ -68,13 +68,13 @@ store_not_read files.Device is = cc
 store_not_read files.TooLong is = cc
 
 -- nor does a run that had its input
-pub stored_not_read : (tool : Tool) (input target : List ℕ) (old new : HostState) (answer : Result (Unit {0}) ToolFault) → HasStored tool input target old new answer → answer ≡ Err Read → ⊥
-stored_not_read tool input target old new answer (inl (output, makes, stored, stores, is)) read = not_read stored (sym is ∙ read)
+pub stored_not_read : (tool : Tool) (input target : List ℕ) (old new : HostState) (outcome : Result (Unit {0}) ToolFault) → HasStored tool input target old new outcome → outcome ≡ Err Read → ⊥
+stored_not_read tool input target old new outcome (inl (output, makes, stored, stores, is)) read = not_read stored (sym is ∙ read)
   where
-    not_read : (stored : Result (Unit {0}) HostFault) → answer_of_store stored ≡ Err Read → ⊥
+    not_read : (stored : Result (Unit {0}) HostFault) → outcome_of_store stored ≡ Err Read → ⊥
     not_read (Ok done) is = cc
     not_read (Err fault) is = store_not_read fault cc
-stored_not_read tool input target old new answer (inr (fault, refuses, is, kept)) read = refuses_not_read tool input fault refuses cc
+stored_not_read tool input target old new outcome (inr (fault, refuses, is, kept)) read = refuses_not_read tool input fault refuses cc
 
 -- what is printed of faulty lines, part by part
 pub refused_parts : (name : Option (List ℕ)) (all kept : List FaultyLine) (count : ℕ) (none lines out : List ℕ) → none ≡ [] → lines ≡ none ++ flat_map (faulty_line name) kept

@@ -38,14 +38,14 @@ taken_of (Err fault) = Err (fault_of_fetch fault)
 
 -- what a tool has written, and its result, if its host file was fetched with this result
 abbrev pub WritesFetched : {A : Type 0} → Tool → Result (List ℕ) HostFault → Option (List ℕ) → Option (List ℕ) → Result A ToolFault → Type 0
-WritesFetched tool (Ok bytes) old new answer = HasWritten tool bytes old new answer
-WritesFetched tool (Err fault) old new answer = (answer ≡ Err (fault_of_fetch fault)) × Keeps old new
+WritesFetched tool (Ok bytes) old new outcome = HasWritten tool bytes old new outcome
+WritesFetched tool (Err fault) old new outcome = (outcome ≡ Err (fault_of_fetch fault)) × Keeps old new
 
 -- a tool has run on the input, or on the host file with this name
 abbrev pub RanToolOn : {A : Type 0} → Tool → Option (List ℕ) → Outside → Outside → Result A ToolFault → Type 0
-RanToolOn tool None old new answer = RanTool tool old.reader new.reader old.output.contents new.output.contents answer × (new.host ≡ old.host)
-RanToolOn tool (Some name) old new answer = (new.reader ≡ old.reader)
-    × (fetched : Result (List ℕ) HostFault) × FetchesFile old.host name input_limit fetched new.host × WritesFetched tool fetched old.output.contents new.output.contents answer
+RanToolOn tool None old new outcome = RanTool tool old.reader new.reader old.output.contents new.output.contents outcome × (new.host ≡ old.host)
+RanToolOn tool (Some name) old new outcome = (new.reader ≡ old.reader)
+    × (fetched : Result (List ℕ) HostFault) × FetchesFile old.host name input_limit fetched new.host × WritesFetched tool fetched old.output.contents new.output.contents outcome
 
 -- how a tool's result is reported: status 0 and no line if it wrote its output; 1 and a status
 -- line, whole unless writing it failed, if it refused its input; and otherwise 2 and the line of a
@@ -70,8 +70,8 @@ TakesInput (Some name) reader left old new taken =
 -- what a tool has stored of the input that was taken with this result; nothing is stored if it
 -- could not be taken
 abbrev pub StoresTaken : Tool → Result (List ℕ) ToolFault → List ℕ → HostState → HostState → Result (Unit {0}) ToolFault → Type 0
-StoresTaken tool (Ok bytes) target old new answer = HasStored tool bytes target old new answer
-StoresTaken tool (Err fault) target old new answer = (answer ≡ Err fault) × (new ≡ old)
+StoresTaken tool (Ok bytes) target old new outcome = HasStored tool bytes target old new outcome
+StoresTaken tool (Err fault) target old new outcome = (outcome ≡ Err fault) × (new ≡ old)
 
 -- the bytes of a tool's input, if it has taken them
 abbrev pub input_bytes_of : Result (List ℕ) ToolFault → List ℕ
@@ -80,10 +80,10 @@ input_bytes_of (Err fault) = []
 
 -- a tool that has taken these bytes has run on the input, or on the host file with this name, to
 -- the target file; nothing was printed
-pub record RanToolTo (tool : Tool) (name : Option (List ℕ)) (target : List ℕ) (taken : Result (List ℕ) ToolFault) (old new : Outside) (answer : Result (Unit {0}) ToolFault) : Type 0 where
+pub record RanToolTo (tool : Tool) (name : Option (List ℕ)) (target : List ℕ) (taken : Result (List ℕ) ToolFault) (old new : Outside) (outcome : Result (Unit {0}) ToolFault) : Type 0 where
   pub host : HostState
   pub takes : TakesInput name old.reader new.reader old.host host taken
-  pub stores : StoresTaken tool taken target host new.host answer
+  pub stores : StoresTaken tool taken target host new.host outcome
   pub output : new.output ≡ old.output
 
 -- the faulty lines of a text whose program is loaded at an address are reported, with status 1; or
@@ -118,15 +118,15 @@ ReportsStored tool name bytes target all (Err (tool_faults.Memory error)) faults
 -- cannot be read to its end
 abbrev pub EndedToolTo : Tool → Option (List ℕ) → List ℕ → Outside → Outside → ℕ → Type 0
 EndedToolTo tool name target old new status =
-    (taken : Result (List ℕ) ToolFault) × (answer : Result (Unit {0}) ToolFault) × RanToolTo tool name target taken old new answer
-    × (name ≡ None → answer ≡ Err tool_faults.Read → IsUnreadable new.reading) × ReportsStored tool name (input_bytes_of taken) target new.host.files answer old.error new.error status
+    (taken : Result (List ℕ) ToolFault) × (outcome : Result (Unit {0}) ToolFault) × RanToolTo tool name target taken old new outcome
+    × (name ≡ None → outcome ≡ Err tool_faults.Read → IsUnreadable new.reading) × ReportsStored tool name (input_bytes_of taken) target new.host.files outcome old.error new.error status
 
 -- how a tool ended that prints its result; it reports a fault of reading its input, or of writing,
 -- only if the input cannot be read to its end, or a write or a flush has failed
 abbrev pub EndedTool : Tool → Option (List ℕ) → Outside → Outside → ℕ → Type 0
 EndedTool tool name old new status =
-    (answer : Result (Unit {0}) ToolFault) × RanToolOn tool name old new answer
-    × (name ≡ None → ReadsWith answer new.reading) × WritesWith answer old.output.has_failed new.output.has_failed × ReportsToolResult answer old.error new.error status
+    (outcome : Result (Unit {0}) ToolFault) × RanToolOn tool name old new outcome
+    × (name ≡ None → ReadsWith outcome new.reading) × WritesWith outcome old.output.has_failed new.output.has_failed × ReportsToolResult outcome old.error new.error status
 
 -- how a tool ended whose result goes to the output, or to the host file with this name
 abbrev pub EndedConversion : Tool → Option (List ℕ) → Option (List ℕ) → Outside → Outside → ℕ → Type 0

@@ -1,7 +1,7 @@
 -- What the tools make of an input, and what they write.
 use Rattle.std.specs.Prelude.{◌≡◌, ◌⊎◌, ℕ, ◌<◌, ◌≤◌, ◌^◌, Bool, true, false, List, length, Option, IfSome, Result, Ok, Err, ⊤}
 use Rattle.std.specs.Io.KnownBytes.{Appends, Consumes, IsAtEnd, Keeps}
-use Rattle.cbm_text.specs.BasicText.{IsFileOf, IsFirstBasicFault, TellsLine, basic_fault_line}
+use Rattle.cbm_text.specs.BasicText.{IsFileOf, IsFirstBasicFault, NamesLine, basic_fault_line}
 use Rattle.cbm_text.specs.Listing.{Lists}
 use Rattle.cbm_text.specs.ListFault.{ListsNot}
 use Rattle.cbm_text.specs.declared.fault.ListFault.{ListFault}
@@ -42,7 +42,7 @@ Refuses Petcat input (Memory error) = ⊤
 Refuses Petcat input Read = ⊥
 Refuses Petcat input Write = ⊥
 Refuses (Crunch start) input (NotBasic fault) = ⊥
-Refuses (Crunch start) input (Text fault) = IsFirstBasicFault start input fault × TellsLine input fault
+Refuses (Crunch start) input (Text fault) = IsFirstBasicFault start input fault × NamesLine input fault
 Refuses (Crunch start) input (Memory error) = ⊤
 Refuses (Crunch start) input Read = ⊥
 Refuses (Crunch start) input Write = ⊥
@@ -63,16 +63,16 @@ fault_of_store (files.Memory error) = Memory error
 fault_of_store fault = Write
 
 -- the tool's result for a store's
-abbrev pub answer_of_store : {A : Type 0} → Result A HostFault → Result A ToolFault
-answer_of_store (Ok done) = Ok done
-answer_of_store (Err fault) = Err (fault_of_store fault)
+abbrev pub outcome_of_store : {A : Type 0} → Result A HostFault → Result A ToolFault
+outcome_of_store (Ok done) = Ok done
+outcome_of_store (Err fault) = Err (fault_of_store fault)
 
 -- what the tool stores of an input under a name: all that it makes of it, with the host's result;
 -- or nothing, if it refuses the input
 abbrev pub HasStored : Tool → List ℕ → List ℕ → HostState → HostState → Result (Unit {0}) ToolFault → Type 0
-HasStored tool input name old new answer =
-    ((output : List ℕ) × ToolMakes tool input output × (stored : Result (Unit {0}) HostFault) × StoresFile old name output stored new × (answer ≡ answer_of_store stored))
-    ⊎ ((fault : ToolFault) × Refuses tool input fault × (answer ≡ Err fault) × (new ≡ old))
+HasStored tool input name old new outcome =
+    ((output : List ℕ) × ToolMakes tool input output × (stored : Result (Unit {0}) HostFault) × StoresFile old name output stored new × (outcome ≡ outcome_of_store stored))
+    ⊎ ((fault : ToolFault) × Refuses tool input fault × (outcome ≡ Err fault) × (new ≡ old))
 
 -- the input is all that the reader had, and no longer than a script may be
 pub record HasRead (reader left : Option (List ℕ)) (input : List ℕ) : Type 0 where
@@ -91,7 +91,7 @@ ReadsNot reader left (NotBasic fault) = ⊥
 
 -- the tool has read a whole input, with this result
 abbrev pub RanWholly : {A : Type 0} → Tool → Option (List ℕ) → Option (List ℕ) → Option (List ℕ) → Option (List ℕ) → Result A ToolFault → Type 0
-RanWholly tool reader left old new answer = (input : List ℕ) × HasRead reader left input × HasWritten tool input old new answer
+RanWholly tool reader left old new outcome = (input : List ℕ) × HasRead reader left input × HasWritten tool input old new outcome
 
 -- what a run of the tool leaves of its reader and its writer, by its result
 abbrev pub RanTool : {A : Type 0} → Tool → Option (List ℕ) → Option (List ℕ) → Option (List ℕ) → Option (List ℕ) → Result A ToolFault → Type 0

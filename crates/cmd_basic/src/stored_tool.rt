@@ -55,11 +55,11 @@ impl<'n> StoredTool<'n> {
     {
         match self.taken(alloc, &mut console.input, host) {
             Ok(bytes) => {
-                let answer = self.store(alloc, bytes.as_slice(), host);
+                let outcome = self.store(alloc, bytes.as_slice(), host);
                 self.report(
                     alloc,
                     bytes.as_slice(),
-                    answer,
+                    outcome,
                     host,
                     &mut console.outputs.faults,
                 )
@@ -114,17 +114,17 @@ impl<'n> StoredTool<'n> {
         self,
         alloc: Global,
         bytes: &[u8],
-        answer: Result<(), ToolFault>,
+        outcome: Result<(), ToolFault>,
         host: &H,
         faults: &mut OutputStream<'_, F>,
     ) -> u8
         requires { length bytes.now ≤ input_limit }
         ensures faults { faults.new.writer.ghost_name ≡ faults.old.writer.ghost_name }
         ensures status { result ≤ 2 }
-        ensures reported { ReportsStored self.entry.tool (option_copied self.entry.file) bytes.now self.entry.target.now (H.state host.now).files answer (account_at F.contents faults.old) (account_at F.contents faults.new) result }
+        ensures reported { ReportsStored self.entry.tool (option_copied self.entry.file) bytes.now self.entry.target.now (H.state host.now).files outcome (account_at F.contents faults.old) (account_at F.contents faults.new) result }
         ensures silent { result ≡ 0 → faults.new ≡ faults.old }
     {
-        match answer {
+        match outcome {
             Ok(()) => ALL_ACCEPTED,
             Err(ToolFault::Text(_)) => self.report_text(alloc, bytes, faults),
             Err(ToolFault::NotBasic(fault)) => self.report_program(alloc, fault, faults),

@@ -46,8 +46,8 @@ impl<'n> ToolJob<'n> {
         ensures silent { result ≡ 0 → console.new.outputs.faults ≡ console.old.outputs.faults }
     {
         let Some(target) = self.target else {
-            let answer = run_tool(alloc, self.tool, self.file, console, host);
-            return report_result(answer, &mut console.outputs.faults);
+            let outcome = run_tool(alloc, self.tool, self.file, console, host);
+            return report_result(outcome, &mut console.outputs.faults);
         };
         let job = StoredTool {
             tool: self.tool,
@@ -114,14 +114,14 @@ fn write_result<R: Read, W: Write, F: Write, H: Host>(
 }
 
 /// Reports a tool's result, and returns the exit status.
-fn report_result<F: Write>(answer: Result<(), ToolFault>, faults: &mut OutputStream<'_, F>) -> u8
-    requires { IfErr answer HasSmallLine }
+fn report_result<F: Write>(outcome: Result<(), ToolFault>, faults: &mut OutputStream<'_, F>) -> u8
+    requires { IfErr outcome HasSmallLine }
     ensures faults { faults.new.writer.ghost_name ≡ faults.old.writer.ghost_name }
-    ensures wrote { result ≡ 0 → IsOk answer }
-    ensures reported { ReportsToolResult answer (account_at F.contents faults.old) (account_at F.contents faults.new) result }
+    ensures wrote { result ≡ 0 → IsOk outcome }
+    ensures reported { ReportsToolResult outcome (account_at F.contents faults.old) (account_at F.contents faults.new) result }
     ensures silent { result ≡ 0 → faults.new ≡ faults.old }
 {
-    match answer {
+    match outcome {
         Ok(()) => ALL_ACCEPTED,
         Err(ToolFault::Text(fault)) => report_refusal(of_basic_fault(fault), faults),
         Err(ToolFault::NotBasic(fault)) => report_refusal(of_list_fault(fault), faults),

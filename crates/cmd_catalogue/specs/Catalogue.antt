@@ -2,12 +2,12 @@
 use Rattle.std.specs.Prelude.{ℕ, List, Option, codes, option_map, string_bytes}
 use Rattle.d64_inventory.specs.ListingAmiss.{is_listing_amiss}
 use Rattle.out_messages.specs.FaultLines.{no_dump_text}
-use Rattle.program_surveys.specs.Answers.{Rule}
+use Rattle.program_surveys.specs.FileOutcomes.{Rule}
 use Rattle.program_surveys.specs.Printings.{Printing, survey_rule}
 use Rattle.program_arguments.specs.declared.jobs.Page.{Page}
 use Rattle.cmd_catalogue.specs.Head.{page_head}
 use Rattle.cmd_catalogue.specs.Links.{folder_of}
-use Rattle.cmd_catalogue.specs.Sections.{section, unanswered_section}
+use Rattle.cmd_catalogue.specs.Sections.{section, failed_section}
 use Rattle.cmd_catalogue.specs.Title.{page_title}
 
 -- the folder for links that the page's options name, if they do
@@ -24,8 +24,8 @@ abbrev pub catalogue_printing : Page → Printing
 catalogue_printing page = record {
   heading = catalogue_heading page;
   of_dump = λ name bytes dump. section page.maps (folder_of (links_of page) name) name dump;
-  of_unread = λ name. unanswered_section name (codes "cannot be read");
-  of_no_dump = λ name bytes. unanswered_section name (no_dump_text bytes);
+  of_unread = λ name. failed_section name (codes "cannot be read");
+  of_no_dump = λ name bytes. failed_section name (no_dump_text bytes);
   is_amiss = is_listing_amiss;
 }
 

@@ -87,6 +87,6 @@ section maps folder name dump =
     element (codes "details") (amiss_class (is_sound dump.image) (is_amiss dump)) (section_content maps folder name dump) ++ codes "\n"
 
 -- the section of a file that is not a dump, with what is wrong with it
-unfoldable pub unanswered_section : Bytes → List ℕ → List ℕ
-unanswered_section name wrong =
+unfoldable pub failed_section : Bytes → List ℕ → List ℕ
+failed_section name wrong =
     element (codes "section") (codes " class=\"amiss\"") (codes "\n" ++ (host_line (codes "h2") name ++ text_line (codes "p") [] wrong)) ++ codes "\n"

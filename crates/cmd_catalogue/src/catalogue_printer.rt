@@ -4,7 +4,7 @@ ghost use Rattle.cmd_catalogue.specs.Catalogue.{catalogue_printing};
 
 use crate::head::push_head;
 use crate::host_files::{HostFiles, folder_of};
-use crate::section::{push_section, push_unanswered};
+use crate::section::{push_failed, push_section};
 use d64_inventory::is_amiss;
 use d64_survey::Inspection;
 use out_messages::push_no_dump;
@@ -67,7 +67,7 @@ impl Printer for CataloguePrinter {
 
     fn print_unread(&mut self, name: &[u8], out: Vec<u8>) -> Result<Vec<u8>, AllocError> {
         let mut page = out;
-        push_unanswered(&mut page, name, b"cannot be read")?;
+        push_failed(&mut page, name, b"cannot be read")?;
         Ok(page)
     }
 
@@ -80,7 +80,7 @@ impl Printer for CataloguePrinter {
         self.text.clear();
         push_no_dump(&mut self.text, bytes)?;
         let mut page = out;
-        push_unanswered(&mut page, name, self.text.as_slice())?;
+        push_failed(&mut page, name, self.text.as_slice())?;
         Ok(page)
     }
 

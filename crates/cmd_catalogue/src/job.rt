@@ -1,7 +1,7 @@
 //! The catalogue that the arguments ask for.
 ghost use Rattle.std.specs.Prelude.{◌≡◌, ◌≤◌};
 ghost use Rattle.cmd_catalogue.specs.Catalogue.{catalogue_rule, catalogue_heading};
-ghost use Rattle.program_surveys.specs.Answers.{by_rule};
+ghost use Rattle.program_surveys.specs.FileOutcomes.{by_rule};
 ghost use Rattle.program_console.specs.Console.{IsDelivered, IsFresh, SameStreams};
 ghost use Rattle.program_console.specs.Outside.{outside_at};
 ghost use Rattle.program_surveys.specs.JobEnds.{EndedSurvey};

@@ -2,7 +2,7 @@
 ghost use Rattle.std.specs.Prelude.{◌≡◌, [], ◌++◌, codes, option_map, OnOk};
 ghost use Rattle.std.specs.List.{flat_map};
 ghost use Rattle.cmd_catalogue.specs.Elements.{text_line};
-ghost use Rattle.cmd_catalogue.specs.Sections.{disk_name_line, id_line, host_line, contents_line, state_line, label_lines, summary, fault_item, error_item, fault_items, error_items, wrongs, picture_where, section_content, amiss_class, section, unanswered_section};
+ghost use Rattle.cmd_catalogue.specs.Sections.{disk_name_line, id_line, host_line, contents_line, state_line, label_lines, summary, fault_item, error_item, fault_items, error_items, wrongs, picture_where, section_content, amiss_class, section, failed_section};
 
 use crate::element::push_text_line;
 use crate::files::push_table;
@@ -273,13 +273,9 @@ fn push_wrong_lines(out: &mut Vec<u8>, name: &[u8], wrong: &[u8]) -> Result<(), 
 }
 
 /// Appends the section of a file that is not a dump, with what is wrong with it.
-#[tactic(auto, unfolding(crate::specs::Sections::unanswered_section, out_markup::specs::Markup::element, out_markup::specs::Markup::tag))]
-pub(crate) fn push_unanswered(
-    out: &mut Vec<u8>,
-    name: &[u8],
-    wrong: &[u8],
-) -> Result<(), AllocError>
-    ensures { OnOk result (out.new.items ≡ out.old.items ++ unanswered_section name.now wrong.now) }
+#[tactic(auto, unfolding(crate::specs::Sections::failed_section, out_markup::specs::Markup::element, out_markup::specs::Markup::tag))]
+pub(crate) fn push_failed(out: &mut Vec<u8>, name: &[u8], wrong: &[u8]) -> Result<(), AllocError>
+    ensures { OnOk result (out.new.items ≡ out.old.items ++ failed_section name.now wrong.now) }
 {
     out.extend_from_slice(b"<section class=\"amiss\">\n")?;
     push_wrong_lines(out, name, wrong)?;

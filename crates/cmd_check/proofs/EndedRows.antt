@@ -7,9 +7,9 @@ use Rattle.cmd_check.specs.CheckRows.{field_where, csv_row_of}
 pub row_ended : (out : List ℕ) (all digested before fields : List (List ℕ)) (digest : Option (List ℕ)) (doubts error : List ℕ)
     → before ≡ fields → digested ≡ before ++ field_where digest → all ≡ digested ++ doubts ∷ []
     → out ++ row_text default_writer (all ++ error ∷ []) ≡ out ++ csv_row_of fields digest doubts error
-row_ended out all digested before fields digest doubts error named told doubted =
+row_ended out all digested before fields digest doubts error named known doubted =
     ap (λ (fs : List (List ℕ)). out ++ row_text default_writer fs)
     (ap (λ (fs : List (List ℕ)). fs ++ error ∷ []) doubted
     ∙ append_assoc digested (doubts ∷ []) (error ∷ [])
-    ∙ ap (λ (fs : List (List ℕ)). fs ++ doubts ∷ error ∷ []) (told ∙ ap (λ (fs : List (List ℕ)). fs ++ field_where digest) named)
+    ∙ ap (λ (fs : List (List ℕ)). fs ++ doubts ∷ error ∷ []) (known ∙ ap (λ (fs : List (List ℕ)). fs ++ field_where digest) named)
     ∙ append_assoc fields (field_where digest) (doubts ∷ error ∷ []))

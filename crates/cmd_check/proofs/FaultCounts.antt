@@ -33,8 +33,8 @@ faults_of-other list i condition fault within is other =
 -- how many there are then
 pub count-more : (list : List Fault) (i condition count after : ℕ) (fault : Fault) → i < length list → fault ≡ get_or list i fault → number fault ≡ condition
     → count ≡ length (faults_of (take i list) condition) → after ≡ count + 1 → after ≡ length (faults_of (take (i + 1) list) condition)
-count-more list i condition count after fault within is same counted told =
-    told
+count-more list i condition count after fault within is same counted known =
+    known
     ∙ ap (λ (n : ℕ). n + 1) counted
     ∙ sym (length-append (faults_of (take i list) condition) (fault ∷ []))
     ∙ ap length (sym (faults_of-one list i condition fault within is same))
@@ -62,10 +62,10 @@ lines_within image list i condition = flat_map (fault_line image) (take most_lin
 pub line-more : (image : Disk) (list : List Fault) (i condition count : ℕ) (fault : Fault) (before text after : List ℕ) → i < length list → fault ≡ get_or list i fault
     → number fault ≡ condition → count ≡ length (faults_of (take i list) condition) → text ≡ before ++ lines_within image list i condition
     → after ≡ text ++ (if nat_lt count most_lines then fault_line image fault else []) → after ≡ before ++ lines_within image list (i + 1) condition
-line-more image list i condition count fault before text after within is same counted so told =
+line-more image list i condition count fault before text after within is same counted so known =
     let these = faults_of (take i list) condition in
     let lines = lines_within image list i condition in
-    told
+    known
     ∙ ap (λ (t : List ℕ). t ++ (if nat_lt count most_lines then fault_line image fault else [])) so
     ∙ append_assoc before lines (if nat_lt count most_lines then fault_line image fault else [])
     ∙ ap (λ (n : ℕ). before ++ (lines ++ (if nat_lt n most_lines then fault_line image fault else []))) counted

@@ -8,10 +8,10 @@ use Rattle.program_arguments.specs.declared.jobs.Format.{Format}
 use Rattle.program_arguments.specs.declared.jobs.Format.TheVariants.{Text, Json, Csv}
 use Rattle.out_json_csv.specs.Values.{line_of}
 use Rattle.cmd_check.specs.Checks.{check_object, check_row}
-use Rattle.cmd_check.specs.CheckRows.{header_row, unanswered_row}
-use Rattle.out_json_csv.specs.Unanswered.{unread_object, no_dump_object, no_dump_error}
+use Rattle.cmd_check.specs.CheckRows.{header_row, failed_row}
+use Rattle.out_json_csv.specs.FailedDumps.{unread_object, no_dump_object, no_dump_error}
 use Rattle.cmd_check.specs.CheckText.{check_text}
-use Rattle.program_surveys.specs.Answers.{Rule}
+use Rattle.program_surveys.specs.FileOutcomes.{Rule}
 use Rattle.program_surveys.specs.Printings.{Printing, survey_rule}
 
 -- the digest of bytes, if it is asked for
@@ -28,13 +28,13 @@ check_printed_of Csv name dump digest = check_row dump name digest
 abbrev pub check_printed_unread : Format → Bool → List ℕ → List ℕ
 check_printed_unread Text digest name = []
 check_printed_unread Json digest name = line_of (unread_object name)
-check_printed_unread Csv digest name = unanswered_row name digest (codes "cannot be read")
+check_printed_unread Csv digest name = failed_row name digest (codes "cannot be read")
 
 -- what is printed of bytes that are not a dump
 abbrev pub check_printed_no_dump : Format → Bool → List ℕ → Bytes → List ℕ
 check_printed_no_dump Text digest name bytes = []
 check_printed_no_dump Json digest name bytes = line_of (no_dump_object name bytes)
-check_printed_no_dump Csv digest name bytes = unanswered_row name digest (no_dump_error bytes)
+check_printed_no_dump Csv digest name bytes = failed_row name digest (no_dump_error bytes)
 
 -- what is printed before the first result: the header row of CSV
 abbrev pub heading_of : Format → Bool → List ℕ

@@ -28,6 +28,6 @@ abbrev pub header_row : Bool → List ℕ
 header_row has_digest = csv_row_of columns (in_digest has_digest (codes "sha256")) (codes "doubts") (codes "error")
 
 -- a row with only a name and an error
-unfoldable pub unanswered_row : List ℕ → Bool → List ℕ → List ℕ
-unanswered_row name has_digest error =
+unfoldable pub failed_row : List ℕ → Bool → List ℕ → List ℕ
+failed_row name has_digest error =
     csv_row_of (host_field name ∷ [] ∷ [] ∷ [] ∷ [] ∷ [] ∷ [] ∷ [] ∷ [] ∷ [] ∷ [] ∷ [] ∷ [] ∷ [] ∷ []) (in_digest has_digest []) [] error

@@ -18,7 +18,7 @@ use Rattle.out_json_csv.specs.Values.{Field, object_of, array_of, numeral}
 use Rattle.out_json_csv.specs.Names.{label_members}
 use Rattle.cmd_check.specs.Findings.{fault_object, read_error_object}
 use Rattle.cmd_check.specs.Doubts.{doubt_value, doubt_names_text}
-use Rattle.out_json_csv.specs.Unanswered.{image_member}
+use Rattle.out_json_csv.specs.FailedDumps.{image_member}
 use Rattle.out_json_csv.specs.Rows.{truth_text, host_field}
 use Rattle.cmd_check.specs.CheckRows.{csv_row_of}
 

@@ -1,7 +1,7 @@
 //! Rows of CSV: the header, and the rows of files that cannot be read or have a wrong length.
 ghost use Rattle.std.specs.Prelude.{◌≡◌, [], ◌∷◌, ◌++◌, codes, OnOk, IfOk};
-ghost use Rattle.cmd_check.specs.CheckRows.{in_digest, field_where, header_row, unanswered_row};
-ghost use Rattle.out_json_csv.specs.Unanswered.{no_dump_error};
+ghost use Rattle.cmd_check.specs.CheckRows.{in_digest, field_where, header_row, failed_row};
+ghost use Rattle.out_json_csv.specs.FailedDumps.{no_dump_error};
 
 use out_json_csv::{CsvRow, Scratch, UNREAD, end_row, no_dump_error};
 use std::alloc::AllocError;
@@ -53,14 +53,14 @@ pub(crate) fn csv_header(
 }
 
 /// Appends a row with only a name and an error.
-fn push_unanswered(
+fn push_failed(
     scratch: &mut Scratch,
     name: &[u8],
     has_digest: bool,
     error: &[u8],
     out: Vec<u8>,
 ) -> Result<Vec<u8>, AllocError>
-    ensures { IfOk result (λ text. text.items ≡ out.items ++ unanswered_row name.now has_digest error.now) }
+    ensures { IfOk result (λ text. text.items ≡ out.items ++ failed_row name.now has_digest error.now) }
 {
     scratch.row.clear();
     scratch.row.push_host_name(&mut scratch.text, name)?;
@@ -77,9 +77,9 @@ pub(crate) fn unread_csv(
     has_digest: bool,
     out: Vec<u8>,
 ) -> Result<Vec<u8>, AllocError>
-    ensures { IfOk result (λ text. text.items ≡ out.items ++ unanswered_row name.now has_digest (codes "cannot be read")) }
+    ensures { IfOk result (λ text. text.items ≡ out.items ++ failed_row name.now has_digest (codes "cannot be read")) }
 {
-    push_unanswered(scratch, name, has_digest, UNREAD.as_bytes(), out)
+    push_failed(scratch, name, has_digest, UNREAD.as_bytes(), out)
 }
 
 /// Appends the row of a file with these bytes, which is not a dump, to a text.
@@ -90,9 +90,9 @@ pub(crate) fn no_dump_csv(
     bytes: &[u8],
     out: Vec<u8>,
 ) -> Result<Vec<u8>, AllocError>
-    ensures { IfOk result (λ text. text.items ≡ out.items ++ unanswered_row name.now has_digest (no_dump_error bytes.now)) }
+    ensures { IfOk result (λ text. text.items ≡ out.items ++ failed_row name.now has_digest (no_dump_error bytes.now)) }
 {
-    push_unanswered(
+    push_failed(
         scratch,
         name,
         has_digest,

@@ -1,7 +1,7 @@
 -- What a comparison leaves, by what its steps leave.
 use Rattle.std.proofs.Common.{◌≡◌, ◌∙◌, ℕ, List, Result, Err, inr, refl, sym, ap, subst}
 use Rattle.host_storage.specs.Files.{HostState}
-use Rattle.program_surveys.specs.Answers.{Answer}
+use Rattle.program_surveys.specs.FileOutcomes.{FileOutcome}
 use Rattle.program_surveys.specs.Runs.{IsCut, IsReported, Reported, run_state}
 use Rattle.cmd_diff.specs.Comparisons.{AreCompared, Compares, PairRule}
 use Rattle.program_console.specs.declared.stream_fault.StreamFault.{StreamFault}
@@ -9,9 +9,9 @@ use Rattle.program_console.specs.declared.stream_fault.StreamFault.TheVariants.{
 use Rattle.program_surveys.specs.FileContents.{Contents, IsReadAs}
 
 -- a rule says the same of the same names and bytes
-pub same_answer : (rule : PairRule) (said : Answer) (old_name old_name' : List ℕ) (old old' : Contents) (new_name new_name' : List ℕ) (new new' : Contents)
+pub same_outcome : (rule : PairRule) (said : FileOutcome) (old_name old_name' : List ℕ) (old old' : Contents) (new_name new_name' : List ℕ) (new new' : Contents)
     → said ≡ rule old_name old new_name new → old_name ≡ old_name' → old ≡ old' → new_name ≡ new_name' → new ≡ new' → said ≡ rule old_name' old' new_name' new'
-same_answer rule said old_name old_name' old old' new_name new_name' new new' is e1 e2 e3 e4 =
+same_outcome rule said old_name old_name' old old' new_name new_name' new new' is e1 e2 e3 e4 =
     is ∙ ap (λ (n : List ℕ). rule n old new_name new) e1 ∙ ap (λ (o : Contents). rule old_name' o new_name new) e2
     ∙ ap (λ (n : List ℕ). rule old_name' old' n new) e3 ∙ ap (λ (o : Contents). rule old_name' old' new_name' o) e4
 
@@ -25,7 +25,7 @@ wants_memory rule old_name new_name first middle last reported old new result ol
     subst (λ (r : Result (Unit {0}) StreamFault). Compares rule old_name new_name (run_state first reported) (run_state last reported) r) (sym is) ended
 
 -- both files were read, and the output failed while the result was written
-pub was_cut : (rule : PairRule) (old_name new_name : List ℕ) (first middle last : HostState) (before after : Reported) (old new : Contents) (said : Answer) (result : Result (Unit {0}) StreamFault)
+pub was_cut : (rule : PairRule) (old_name new_name : List ℕ) (first middle last : HostState) (before after : Reported) (old new : Contents) (said : FileOutcome) (result : Result (Unit {0}) StreamFault)
     → IsReadAs old_name first old middle → IsReadAs new_name middle new last → said ≡ rule old_name old new_name new → IsCut said before after → result ≡ Err Write
     → Compares rule old_name new_name (run_state first before) (run_state last after) result
 was_cut rule old_name new_name first middle last before after old new said result old_read new_read same cut is =
@@ -33,17 +33,17 @@ was_cut rule old_name new_name first middle last before after old new said resul
       old = old;
       new = new;
       read = record { middle = middle; old_read = old_read; new_read = new_read };
-      reported = subst (λ (a : Answer). IsCut a before after) same cut;
+      reported = subst (λ (a : FileOutcome). IsCut a before after) same cut;
     } in
     subst (λ (r : Result (Unit {0}) StreamFault). Compares rule old_name new_name (run_state first before) (run_state last after) r) (sym is) ended
 
 -- both files were read, and the result was written
-pub compared : (rule : PairRule) (old_name new_name : List ℕ) (first middle last : HostState) (before after : Reported) (old new : Contents) (said : Answer)
+pub compared : (rule : PairRule) (old_name new_name : List ℕ) (first middle last : HostState) (before after : Reported) (old new : Contents) (said : FileOutcome)
     → IsReadAs old_name first old middle → IsReadAs new_name middle new last → said ≡ rule old_name old new_name new → IsReported said before after
     → AreCompared rule old_name new_name (run_state first before) (run_state last after)
 compared rule old_name new_name first middle last before after old new said old_read new_read same reported = record {
   old = old;
   new = new;
   read = record { middle = middle; old_read = old_read; new_read = new_read };
-  reported = subst (λ (a : Answer). IsReported a before after) same reported;
+  reported = subst (λ (a : FileOutcome). IsReported a before after) same reported;
 }

@@ -1,7 +1,7 @@
 -- How a comparison of two files ends.
 use Rattle.std.specs.Prelude.{◌≡◌, ℕ, List, Result, Ok, Err, ◌⊎◌}
 use Rattle.host_storage.specs.Files.{HostState}
-use Rattle.program_surveys.specs.Answers.{Answer}
+use Rattle.program_surveys.specs.FileOutcomes.{FileOutcome}
 use Rattle.program_surveys.specs.Runs.{IsCut, IsReported, RunState}
 use Rattle.program_surveys.specs.JobEnds.{EndedRun}
 use Rattle.program_console.specs.Outside.{Outside}
@@ -12,7 +12,7 @@ use Rattle.program_surveys.specs.FileContents.{Contents, IsReadAs}
 -- the result for an old file and a new one, by the name of each, and its bytes, or why it cannot be
 -- read
 abbrev pub PairRule : Type 0
-PairRule = List ℕ → Contents → List ℕ → Contents → Answer
+PairRule = List ℕ → Contents → List ℕ → Contents → FileOutcome
 
 -- both files were read, the old one first
 pub record AreRead (old_name new_name : List ℕ) (first : HostState) (old new : Contents) (last : HostState) : Type 0 where

@@ -7,7 +7,7 @@ use Rattle.d64_image.specs.Image.{bytes_of}
 use Rattle.d64_survey.specs.Dump.{DumpView, code_bytes}
 use Rattle.out_json_csv.specs.Values.{line_of}
 use Rattle.d64_g64.specs.DumpOf.{dump_of}
-use Rattle.program_surveys.specs.Answers.{Answer}
+use Rattle.program_surveys.specs.FileOutcomes.{FileOutcome}
 use Rattle.program_surveys.specs.declared.report.Verdict.TheVariants.{Clean, Amiss, Failed}
 use Rattle.program_arguments.specs.declared.jobs.DiffForm.{DiffForm}
 use Rattle.program_arguments.specs.declared.jobs.DiffForm.TheVariants.{Text, Json}
@@ -47,16 +47,16 @@ printed_difference Text old_name new_name old new = under_names old_name new_nam
 printed_difference Json old_name new_name old new = printed_changes Json (changes old new)
 
 -- the result if one of two files, or both, cannot be compared
-abbrev pub unanswered_pair : DiffForm → Bytes → Contents → Bytes → Contents → Answer
-unanswered_pair form old_name old new_name new =
+abbrev pub failed_pair : DiffForm → Bytes → Contents → Bytes → Contents → FileOutcome
+failed_pair form old_name old new_name new =
     record { printed = printed_contents_fault form old_name old ++ printed_contents_fault form new_name new; complaint = contents_fault_line old_name old ++ contents_fault_line new_name new; verdict = Failed }
 
 -- the result for two dumps that differ in a byte
-abbrev pub amiss_with : List ℕ → Answer
+abbrev pub amiss_with : List ℕ → FileOutcome
 amiss_with printed = record { printed = printed; complaint = []; verdict = Amiss }
 
 -- the result for two dumps that do not
-abbrev pub silence : Answer
+abbrev pub silence : FileOutcome
 silence = record { printed = []; complaint = []; verdict = Clean }
 
 -- two dumps have the same bytes: those of the blocks, and those of the codes
@@ -65,15 +65,15 @@ are_same old new = pointwise nat_eq (bytes_of old.image) (bytes_of new.image) &&
 
 -- the result for two files by the dumps that they are: nothing is printed if these have the same
 -- bytes, and otherwise what changed
-abbrev pub difference_by : DiffForm → Bytes → Bytes → Bytes → Bytes → Option DumpView → Option DumpView → Answer
+abbrev pub difference_by : DiffForm → Bytes → Bytes → Bytes → Bytes → Option DumpView → Option DumpView → FileOutcome
 difference_by form old_name old new_name new (Some old_dump) (Some new_dump) =
     if are_same old_dump new_dump then silence else amiss_with (printed_difference form old_name new_name old_dump new_dump)
-difference_by form old_name old new_name new (Some old_dump) None = unanswered_pair form old_name (Ok old) new_name (Ok new)
-difference_by form old_name old new_name new None new_dump = unanswered_pair form old_name (Ok old) new_name (Ok new)
+difference_by form old_name old new_name new (Some old_dump) None = failed_pair form old_name (Ok old) new_name (Ok new)
+difference_by form old_name old new_name new None new_dump = failed_pair form old_name (Ok old) new_name (Ok new)
 
 -- the rule of `diff` in a form: the result for the bytes of an old file and a new one, or for the
 -- reasons why they cannot be read
-abbrev pub difference_rule : DiffForm → Bytes → Contents → Bytes → Contents → Answer
+abbrev pub difference_rule : DiffForm → Bytes → Contents → Bytes → Contents → FileOutcome
 difference_rule form old_name (Ok old) new_name (Ok new) = difference_by form old_name old new_name new (dump_of old) (dump_of new)
-difference_rule form old_name (Ok old) new_name (Err reason) = unanswered_pair form old_name (Ok old) new_name (Err reason)
-difference_rule form old_name (Err reason) new_name new = unanswered_pair form old_name (Err reason) new_name new
+difference_rule form old_name (Ok old) new_name (Err reason) = failed_pair form old_name (Ok old) new_name (Err reason)
+difference_rule form old_name (Err reason) new_name new = failed_pair form old_name (Err reason) new_name new

@@ -51,7 +51,7 @@ impl<'n> WholeTask for DifferenceJob<'n> {
         let old = read_contents(self.alloc, self.old, host)?;
         let new = read_contents(self.alloc, self.new, host)?;
         let mut report = DifferenceReport::new(self.alloc, self.form)?;
-        let verdict = report.answer(
+        let verdict = report.compare(
             self.old.as_bytes(),
             lent(&old),
             self.new.as_bytes(),

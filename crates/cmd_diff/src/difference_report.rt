@@ -1,13 +1,13 @@
 //! The report of `diff`: what is printed of two files, and the verdict.
 ghost use Rattle.std.specs.Prelude.{◌≡◌, ◌++◌, [], Ok, IfOk, OnOk};
-ghost use Rattle.program_surveys.specs.Answers.{Answer};
-ghost use Rattle.cmd_diff.specs.Differences.{printed_difference, unanswered_pair, difference_rule, difference_by};
+ghost use Rattle.program_surveys.specs.FileOutcomes.{FileOutcome};
+ghost use Rattle.cmd_diff.specs.Differences.{printed_difference, failed_pair, difference_rule, difference_by};
 ghost use Rattle.program_surveys.specs.FileContents.{contents_by};
 
 use crate::drafts::Drafts;
 use crate::dump_buffer::{are_same, refill};
+use crate::fault_lines::push_fault_lines;
 use crate::printing::{print_changes, push_difference};
-use crate::unanswered::push_fault_lines;
 use d64_survey::Inspection;
 use out_json_csv::Scratch;
 use program_arguments::DiffForm;
@@ -81,7 +81,7 @@ impl DifferenceReport {
 
     /// Reports why two files, with these bytes or the reason why one cannot be read, are not
     /// compared.
-    fn report_unanswered(
+    fn report_failed(
         &mut self,
         old_name: &[u8],
         old: Result<&[u8], Option<Reason>>,
@@ -90,9 +90,9 @@ impl DifferenceReport {
         buffer: &mut ReportBuffer,
     ) -> Result<Verdict, AllocError>
         ensures form { self.new.form ≡ self.old.form }
-        ensures answered { buffer.old.printed.items ≡ [] → buffer.old.complaint.items ≡ [] → IfOk result (λ verdict.
+        ensures compared { buffer.old.printed.items ≡ [] → buffer.old.complaint.items ≡ [] → IfOk result (λ verdict.
             record { printed = buffer.new.printed.items; complaint = buffer.new.complaint.items; verdict = verdict }
-            ≡ unanswered_pair self.old.form old_name.now (contents_by (λ bytes. bytes.now) old.entry) new_name.now (contents_by (λ bytes. bytes.now) new.entry)) }
+            ≡ failed_pair self.old.form old_name.now (contents_by (λ bytes. bytes.now) old.entry) new_name.now (contents_by (λ bytes. bytes.now) new.entry)) }
     {
         let out = mem::replace(&mut buffer.printed, Vec::new(self.alloc));
         let first = print_fault(self.form, &mut self.scratch, old_name, old, out)?;
@@ -118,14 +118,14 @@ impl DifferenceReport {
         buffer: &mut ReportBuffer,
     ) -> Result<Verdict, AllocError>
         ensures form { self.new.form ≡ self.old.form }
-        ensures answered { buffer.old.printed.items ≡ [] → buffer.old.complaint.items ≡ [] → IfOk result (λ verdict.
+        ensures compared { buffer.old.printed.items ≡ [] → buffer.old.complaint.items ≡ [] → IfOk result (λ verdict.
             record { printed = buffer.new.printed.items; complaint = buffer.new.complaint.items; verdict = verdict }
             ≡ difference_rule self.old.form old_name.now (Ok old.now) new_name.now (Ok new.now)) }
     {
         let is_old = refill(&mut self.earlier, old)?;
         let is_new = refill(&mut self.later, new)?;
         if !is_old || !is_new {
-            return self.report_unanswered(old_name, Ok(old), new_name, Ok(new), buffer);
+            return self.report_failed(old_name, Ok(old), new_name, Ok(new), buffer);
         }
         if are_same(&self.earlier.dump, &self.later.dump) {
             return Ok(Verdict::Clean);
@@ -137,7 +137,7 @@ impl DifferenceReport {
     /// Replaces the buffer's contents by the result for an old file and a new one with these names
     /// and these bytes, or with the reason (None if unknown) why one cannot be read. The result is
     /// the same whatever was compared before.
-    pub fn answer(
+    pub fn compare(
         &mut self,
         old_name: &[u8],
         old: Result<&[u8], Option<Reason>>,
@@ -146,13 +146,13 @@ impl DifferenceReport {
         buffer: &mut ReportBuffer,
     ) -> Result<Verdict, AllocError>
         ensures form { self.new.form ≡ self.old.form }
-        ensures answered { IfOk result (λ verdict. record { printed = buffer.new.printed.items; complaint = buffer.new.complaint.items; verdict = verdict }
+        ensures compared { IfOk result (λ verdict. record { printed = buffer.new.printed.items; complaint = buffer.new.complaint.items; verdict = verdict }
             ≡ difference_rule self.old.form old_name.now (contents_by (λ bytes. bytes.now) old.entry) new_name.now (contents_by (λ bytes. bytes.now) new.entry)) }
     {
         buffer.clear();
         match (old, new) {
             (Ok(old), Ok(new)) => self.report_bytes(old_name, old, new_name, new, buffer),
-            (old, new) => self.report_unanswered(old_name, old, new_name, new, buffer),
+            (old, new) => self.report_failed(old_name, old, new_name, new, buffer),
         }
     }
 }

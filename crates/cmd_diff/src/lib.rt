@@ -9,13 +9,13 @@ mod difference_job;
 mod difference_report;
 mod drafts;
 mod dump_buffer;
+mod fault_lines;
 mod job;
 mod laws;
 mod lines;
 mod objects;
 mod printing;
 mod slots;
-mod unanswered;
 
 pub use blocks::{list_changed_blocks, list_changed_codes};
 pub use difference_report::DifferenceReport;

@@ -10,7 +10,7 @@ use Rattle.cmd_extract_contents.specs.Portions.{Portion}
 use Rattle.cmd_extract_contents.specs.Limits.{portion_within}
 use Rattle.d64_g64.specs.DumpOf.{dump_of}
 use Rattle.out_messages.specs.FaultLines.{too_much_line}
-use Rattle.program_surveys.specs.Answers.{Answer, KeepsQuiet}
+use Rattle.program_surveys.specs.FileOutcomes.{FileOutcome, KeepsQuiet}
 use Rattle.program_surveys.specs.declared.report.Verdict.TheVariants.{Clean, Amiss, Failed}
 use Rattle.host_names.specs.ImagePlace.{folders_of}
 use Rattle.d64_inventory.specs.ListingAmiss.{is_listing_amiss}
@@ -22,28 +22,28 @@ use Rattle.cmd_extract.specs.Progress.{Progress, waiting_limit, progress_before_
 use Rattle.cmd_extract.specs.declared.list_state.ListState.{ListState}
 use Rattle.cmd_extract.specs.declared.list_state.ListState.TheVariants.{New, Begun, GivenUp}
 use Rattle.program_console.specs.declared.reason.Reason.{Reason}
-use Rattle.cmd_extract.specs.Unpacking.{unread_answer, skipped_answer, present_answer, unfinished_answer, verdict_on, closed_progress, after_naming, name_work, after_putting, put_work, wait_work, list_work, after_writing, file_work, files_work, unmade_work, folder_work, folders_work, folder_after, present_work, task_work_with, task_of, dump_work, unpacking}
+use Rattle.cmd_extract.specs.Unpacking.{unread_outcome, skipped_outcome, present_outcome, unfinished_outcome, verdict_on, closed_progress, after_naming, name_work, after_putting, put_work, wait_work, list_work, after_writing, file_work, files_work, unmade_work, folder_work, folders_work, folder_after, present_work, task_work_with, task_of, dump_work, unpacking}
 use Rattle.cmd_extract.specs.UnpackLaws.{CleanIsQuiet}
 use Rattle.cmd_extract.specs.Effects.{unpacks}
 use Rattle.cmd_extract.specs.declared.unpacker.Unpacker.{Unpacker}
 
 -- whatever the host returns, a clean result has no complaint
 unfoldable IsQuietWork : Work → Type 0
-IsQuietWork (Done answer) = answer.verdict ≡ Clean → answer.complaint ≡ []
+IsQuietWork (Done outcome) = outcome.verdict ≡ Clean → outcome.complaint ≡ []
 IsQuietWork (Then call next) = (said : Bool) → IsQuietWork (next said)
 IsQuietWork (Why next) = (reason : Option Reason) → IsQuietWork (next reason)
 
 -- then a clean result has none
-does_quietly : (work : Work) (old new : HostState) (answer : Answer) → IsQuietWork work → DoesWork work old (Some answer) new → answer.verdict ≡ Clean → answer.complaint ≡ []
+does_quietly : (work : Work) (old new : HostState) (outcome : FileOutcome) → IsQuietWork work → DoesWork work old (Some outcome) new → outcome.verdict ≡ Clean → outcome.complaint ≡ []
 unfolding DoesWork IsQuietWork
-does_quietly (Done reported) old new answer quiet (same, inl is) clean =
-    let e : answer ≡ reported = cc in
-    ap (λ (a : Answer). a.complaint) e ∙ quiet (sym (ap (λ (a : Answer). a.verdict) e) ∙ clean)
-does_quietly (Done reported) old new answer quiet (same, inr is) clean = absurd (let e : Some answer ≡ None = is in cc)
-does_quietly (Then call next) old new answer quiet (inl (said, middle, says, done)) clean = does_quietly (next said) middle new answer (quiet said) done clean
-does_quietly (Then call next) old new answer quiet (inr (same, is)) clean = absurd (let e : Some answer ≡ None = is in cc)
-does_quietly (Why next) old new answer quiet (inl (reason, says, done)) clean = does_quietly (next reason) old new answer (quiet reason) done clean
-does_quietly (Why next) old new answer quiet (inr (same, is)) clean = absurd (let e : Some answer ≡ None = is in cc)
+does_quietly (Done reported) old new outcome quiet (same, inl is) clean =
+    let e : outcome ≡ reported = cc in
+    ap (λ (a : FileOutcome). a.complaint) e ∙ quiet (sym (ap (λ (a : FileOutcome). a.verdict) e) ∙ clean)
+does_quietly (Done reported) old new outcome quiet (same, inr is) clean = absurd (let e : Some outcome ≡ None = is in cc)
+does_quietly (Then call next) old new outcome quiet (inl (said, middle, says, done)) clean = does_quietly (next said) middle new outcome (quiet said) done clean
+does_quietly (Then call next) old new outcome quiet (inr (same, is)) clean = absurd (let e : Some outcome ≡ None = is in cc)
+does_quietly (Why next) old new outcome quiet (inl (reason, says, done)) clean = does_quietly (next reason) old new outcome (quiet reason) done clean
+does_quietly (Why next) old new outcome quiet (inr (same, is)) clean = absurd (let e : Some outcome ≡ None = is in cc)
 
 -- there is no complaint unless a write failed
 abbrev IsQuietSoFar : Progress → Type 0
@@ -66,7 +66,7 @@ named_quiet : (task : TaskView) (p : Progress) → IsQuietEnd task p → IsQuiet
 unfolding name_work IsQuietWork
 named_quiet task p quiet = by_failure p.has_failed refl
   where
-    by_failure : (failed : Bool) → failed ≡ p.has_failed → IsQuietWork (cond failed (Done (unfinished_answer p)) (Then (Rename task.partial task.done) (after_naming task p)))
+    by_failure : (failed : Bool) → failed ≡ p.has_failed → IsQuietWork (cond failed (Done (unfinished_outcome p)) (Then (Rename task.partial task.done) (after_naming task p)))
     by_failure true is = λ clean. absurd (let e : Failed ≡ Clean = clean in cc)
     by_failure false is = by_name
       where
@@ -151,17 +151,17 @@ after_quiet task (Some path) = unmade_quiet task path
 folders_quiet : (task : TaskView) (place : List ℕ) (folders : List (List ℕ)) → IsQuietWork (folders_work (folder_after task) place folders)
 unfolding folders_work IsQuietWork
 folders_quiet task place [] = after_quiet task None
-folders_quiet task place (folder ∷ folders) = by_answer (folders_quiet task (with_slash (place ++ folder)) folders)
+folders_quiet task place (folder ∷ folders) = by_outcome (folders_quiet task (with_slash (place ++ folder)) folders)
   where
-    by_answer : IsQuietWork (folders_work (folder_after task) (with_slash (place ++ folder)) folders) → (said : Bool)
+    by_outcome : IsQuietWork (folders_work (folder_after task) (with_slash (place ++ folder)) folders) → (said : Bool)
         → IsQuietWork (cond said (folders_work (folder_after task) (with_slash (place ++ folder)) folders) (folder_after task (Some (place ++ folder))))
-    by_answer quiet true = quiet
-    by_answer quiet false = after_quiet task (Some (place ++ folder))
+    by_outcome quiet true = quiet
+    by_outcome quiet false = after_quiet task (Some (place ++ folder))
 
 present_quiet : (task : TaskView) → task.setup.skips ≡ false → IsQuietWork (present_work task)
 unfolding IsQuietWork present_work
 present_quiet task skips =
-    subst (λ (s : Bool). IsQuietWork (cond s (Then (Look (list_in task.done)) (λ is_complete. Done (cond is_complete (skipped_answer task) (present_answer task task.done)))) (Done (present_answer task task.done)))) (sym skips)
+    subst (λ (s : Bool). IsQuietWork (cond s (Then (Look (list_in task.done)) (λ is_complete. Done (cond is_complete (skipped_outcome task) (present_outcome task task.done)))) (Done (present_outcome task task.done)))) (sym skips)
     (λ clean. absurd (let e : Failed ≡ Clean = clean in cc))
 
 task_quiet : (task : TaskView) (folders : List (List ℕ)) → task.setup.skips ≡ false → IsQuietWork (task_work_with task folders)
@@ -169,7 +169,7 @@ unfolding task_work_with IsQuietWork
 task_quiet task folders skips true = present_quiet task skips
 task_quiet task folders skips false = by_begun
   where
-    by_begun : (said : Bool) → IsQuietWork (cond said (Done (present_answer task task.partial)) (folders_work (folder_after task) (path_inside task.setup.into) folders))
+    by_begun : (said : Bool) → IsQuietWork (cond said (Done (present_outcome task task.partial)) (folders_work (folder_after task) (path_inside task.setup.into) folders))
     by_begun true = λ clean. absurd (let e : Failed ≡ Clean = clean in cc)
     by_begun false = folders_quiet task (path_inside task.setup.into) folders
 
@@ -183,12 +183,12 @@ unfolding unpacking IsQuietWork
 unpacking_quiet setup name None skips = λ clean. absurd (let e : Failed ≡ Clean = clean in cc)
 unpacking_quiet setup name (Some bytes) skips = by_text (is_utf8 name)
   where
-    by_text : (t : Bool) → IsQuietWork (cond t (dump_work setup name bytes (dump_of bytes)) (Done (unread_answer setup name)))
+    by_text : (t : Bool) → IsQuietWork (cond t (dump_work setup name bytes (dump_of bytes)) (Done (unread_outcome setup name)))
     by_text true = dump_quiet setup name bytes (dump_of bytes) skips
     by_text false = λ clean. absurd (let e : Failed ≡ Clean = clean in cc)
 
 pub clean_is_quiet : CleanIsQuiet
-clean_is_quiet setup skips name bytes old answer new done clean = does_quietly (unpacking setup name bytes) old new answer (unpacking_quiet setup name bytes skips) done clean
+clean_is_quiet setup skips name bytes old outcome new done clean = does_quietly (unpacking setup name bytes) old new outcome (unpacking_quiet setup name bytes skips) done clean
 
 not_true : (test : Bool) → (test ≡ true → ⊥) → test ≡ false
 not_true true refuted = absurd (refuted refl)

@@ -2,25 +2,25 @@
 use Rattle.std.proofs.Common.{◌≡◌, Bool, true, false, Option, Some, None, refl, sym, ap, subst, inl, inr, Result, Ok, Err}
 use Rattle.std.specs.Prelude.{OnOk, IfOk, IsErr, MatchResult}
 use Rattle.host_storage.specs.Files.{HostState}
-use Rattle.program_surveys.specs.Answers.{Answer}
+use Rattle.program_surveys.specs.FileOutcomes.{FileOutcome}
 use Rattle.program_console.specs.Reasons.{IsWriteReason}
 use Rattle.program_console.specs.declared.reason.Reason.{Reason}
 use Rattle.program_surveys.specs.declared.report.Verdict.{Verdict}
 use Rattle.program_surveys.specs.declared.report.ReportBuffer.{ReportBuffer}
-use Rattle.cmd_extract.specs.Work.{Work, Done, Then, Why, HostCall, CallReturns, DoesWork, LeadsTo, Comes, EndsWork, answer_in}
+use Rattle.cmd_extract.specs.Work.{Work, Done, Then, Why, HostCall, CallReturns, DoesWork, LeadsTo, Comes, EndsWork, outcome_in}
 use Rattle.cmd_extract.specs.Progress.{Progress}
 
 -- memory may run out before anything is done
 pub stops : (work : Work) (host : HostState) → DoesWork work host None host
 unfolding DoesWork
-stops (Done answer) host = (refl, inr refl)
+stops (Done outcome) host = (refl, inr refl)
 stops (Then call next) host = inr (refl, refl)
 stops (Why next) host = inr (refl, refl)
 
 -- work that is done has its result
-pub answers : (answer : Answer) (host : HostState) → DoesWork (Done answer) host (Some answer) host
+pub gives_outcome : (outcome : FileOutcome) (host : HostState) → DoesWork (Done outcome) host (Some outcome) host
 unfolding DoesWork
-answers answer host = (refl, inl refl)
+gives_outcome outcome host = (refl, inl refl)
 
 -- a call was made
 pub called : (call : HostCall) (next : Bool → Work) (old now : HostState) (said : Bool) → CallReturns call old said now → LeadsTo (Then call next) old (next said) now
@@ -69,15 +69,15 @@ match_not (Err fault) P Q is holds = holds
 -- one part of the way, and then the end
 pub ends_after : {E : Type 0} (result : Result Verdict E) (buffer : ReportBuffer) (work middle : Work) (old reached now : HostState) → LeadsTo work old middle reached
     → EndsWork result buffer middle reached now → EndsWork result buffer work old now
-ends_after (Ok verdict) buffer work middle old reached now first second = first (Some (answer_in buffer verdict)) now second
+ends_after (Ok verdict) buffer work middle old reached now first second = first (Some (outcome_in buffer verdict)) now second
 ends_after (Err fault) buffer work middle old reached now first second = first None now second
 
 -- the end with a result
-pub ends_with : {E : Type 0} (result : Result Verdict E) (buffer : ReportBuffer) (answer : Answer) (host : HostState) → IfOk result (λ verdict. answer_in buffer verdict ≡ answer)
-    → EndsWork result buffer (Done answer) host host
+pub ends_with : {E : Type 0} (result : Result Verdict E) (buffer : ReportBuffer) (outcome : FileOutcome) (host : HostState) → IfOk result (λ verdict. outcome_in buffer verdict ≡ outcome)
+    → EndsWork result buffer (Done outcome) host host
 unfolding DoesWork
-ends_with (Ok verdict) buffer answer host is = (refl, inl (ap (λ (a : Answer). Some a) is))
-ends_with (Err fault) buffer answer host is = (refl, inr refl)
+ends_with (Ok verdict) buffer outcome host is = (refl, inl (ap (λ (a : FileOutcome). Some a) is))
+ends_with (Err fault) buffer outcome host is = (refl, inr refl)
 
 -- the end as memory ran out
 pub ends_not : {E : Type 0} (result : Result Verdict E) (buffer : ReportBuffer) (work : Work) (old now : HostState) → IsErr result → DoesWork work old None now → EndsWork result buffer work old now

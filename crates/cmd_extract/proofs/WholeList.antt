@@ -28,7 +28,7 @@ use Rattle.cmd_extract.specs.Progress.{Progress, waiting_limit, progress_before_
 use Rattle.cmd_extract.specs.declared.list_state.ListState.{ListState}
 use Rattle.cmd_extract.specs.declared.list_state.ListState.TheVariants.{New, Begun, GivenUp}
 use Rattle.cmd_extract.specs.Work.{Work, Rename, Done, Then}
-use Rattle.cmd_extract.specs.Unpacking.{unfinished_answer, closed_progress, after_naming, name_work, put_work, wait_work, file_work, files_work, folder_work}
+use Rattle.cmd_extract.specs.Unpacking.{unfinished_outcome, closed_progress, after_naming, name_work, put_work, wait_work, file_work, files_work, folder_work}
 use Rattle.cmd_extract.specs.ListedLines.{all_into, path_of, taken_after, lines_of_rows}
 use Rattle.cmd_extract.specs.UnpackLaws.{ListIsWhole}
 
@@ -68,7 +68,7 @@ naming_none : (task : TaskView) (p : Progress) → into_list task (name_work tas
 unfolding name_work all_into
 naming_none task p = by_failure p.has_failed
   where
-    by_failure : (failed : Bool) → into_list task (cond failed (Done (unfinished_answer p)) (Then (Rename task.partial task.done) (after_naming task p))) ≡ []
+    by_failure : (failed : Bool) → into_list task (cond failed (Done (unfinished_outcome p)) (Then (Rename task.partial task.done) (after_naming task p))) ≡ []
     by_failure true = refl
     by_failure false = refl
 

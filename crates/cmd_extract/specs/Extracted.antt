@@ -7,7 +7,7 @@ use Rattle.d64_leftovers.specs.declared.row.ListedRow.{ListedRow}
 use Rattle.program_arguments.specs.declared.jobs.Leftovers.{Leftovers}
 use Rattle.out_json_csv.specs.Rows.{host_field}
 use Rattle.out_json_csv.specs.Values.{Field, object_of}
-use Rattle.out_json_csv.specs.Unanswered.{host_value}
+use Rattle.out_json_csv.specs.FailedDumps.{host_value}
 use Rattle.host_storage.specs.Shown.{shown_name}
 use Rattle.out_files.specs.RowObject.{row_members, leftover_members}
 use Rattle.out_files.specs.CsvRow.{file_columns, leftover_columns, name_alone, leftover_blanks, row_fields, leftover_fields, row_with}

@@ -6,7 +6,7 @@ use Rattle.program_arguments.specs.declared.jobs.Format.{Format}
 use Rattle.program_arguments.specs.declared.jobs.Format.TheVariants.{Text, Json, Csv}
 use Rattle.program_arguments.specs.declared.jobs.Leftovers.{Leftovers}
 use Rattle.out_json_csv.specs.Values.{line_of}
-use Rattle.out_json_csv.specs.Unanswered.{unanswered_object, no_dump_object, no_dump_error}
+use Rattle.out_json_csv.specs.FailedDumps.{failed_object, no_dump_object, no_dump_error}
 use Rattle.out_files.specs.declared.form.Form.{Form}
 use Rattle.cmd_extract.specs.Extracted.{extracted_object, extracted_row, extracted_line, extracted_header, unextracted_row}
 
@@ -24,7 +24,7 @@ printed_file form name image row path = file_printed form.format form.leftovers 
 -- what is printed of an image that is not extracted, for this error
 abbrev pub error_printed : Format → Leftovers → Bytes → List ℕ → List ℕ
 error_printed Text leftovers name error = []
-error_printed Json leftovers name error = line_of (unanswered_object name error)
+error_printed Json leftovers name error = line_of (failed_object name error)
 error_printed Csv leftovers name error = unextracted_row leftovers name error
 
 abbrev pub printed_error : Form → Bytes → List ℕ → List ℕ

@@ -21,7 +21,7 @@ bytes_into path (Rename from to) = []
 
 -- the bytes that work puts into it, one call after another, if every call is accepted
 unfoldable pub all_into : List ℕ → Work → List ℕ
-all_into path (Done answer) = []
+all_into path (Done outcome) = []
 all_into path (Then call next) = bytes_into path call ++ all_into path (next true)
 all_into path (Why next) = all_into path (next None)
 

@@ -1,6 +1,6 @@
 -- What follows from the definition of how images are unpacked.
 use Rattle.std.specs.Prelude.{◌≡◌, false, [], Some}
-use Rattle.program_surveys.specs.Answers.{KeepsQuiet}
+use Rattle.program_surveys.specs.FileOutcomes.{KeepsQuiet}
 use Rattle.d64_leftovers.specs.Rows.{wanted_rows}
 use Rattle.cmd_extract_contents.specs.Limits.{limit}
 use Rattle.out_files.specs.Forms.{files_and}

@@ -13,7 +13,7 @@ use Rattle.out_messages.specs.FaultLines.{unread_line, wrong_length_line, unwrit
 use Rattle.out_files.specs.Forms.{after_rows}
 use Rattle.out_files.specs.Forms.{files_and}
 use Rattle.cmd_extract.specs.Extracts.{printed_error, printed_length}
-use Rattle.program_surveys.specs.Answers.{Answer}
+use Rattle.program_surveys.specs.FileOutcomes.{FileOutcome}
 use Rattle.program_console.specs.Reasons.{with_known_reason}
 use Rattle.program_console.specs.declared.reason.Reason.{Reason}
 use Rattle.program_surveys.specs.declared.report.Verdict.{Verdict}
@@ -27,30 +27,30 @@ use Rattle.cmd_extract.specs.declared.list_state.ListState.{ListState}
 use Rattle.cmd_extract.specs.declared.list_state.ListState.TheVariants.{New, Begun, GivenUp}
 
 -- the result of an image that is refused: its error is printed, and this goes to the standard error
-abbrev pub refused_answer : ExtractSetupView → List ℕ → List ℕ → List ℕ → Answer
-refused_answer setup name error complaint = record { printed = printed_error setup.form name error; complaint = complaint; verdict = Failed }
+abbrev pub refused_outcome : ExtractSetupView → List ℕ → List ℕ → List ℕ → FileOutcome
+refused_outcome setup name error complaint = record { printed = printed_error setup.form name error; complaint = complaint; verdict = Failed }
 
 -- the result of a file that cannot be read
-abbrev pub unread_answer : ExtractSetupView → List ℕ → Answer
-unread_answer setup name = refused_answer setup name (codes "cannot be read") (unread_line name)
+abbrev pub unread_outcome : ExtractSetupView → List ℕ → FileOutcome
+unread_outcome setup name = refused_outcome setup name (codes "cannot be read") (unread_line name)
 
 -- the result of a file that is not a dump
-abbrev pub wrong_length_answer : ExtractSetupView → List ℕ → Bytes → Answer
-wrong_length_answer setup name bytes =
+abbrev pub wrong_length_outcome : ExtractSetupView → List ℕ → Bytes → FileOutcome
+wrong_length_outcome setup name bytes =
     record { printed = printed_length setup.form name bytes; complaint = wrong_length_line name bytes; verdict = Failed }
 
 -- the result of an image whose folder, or its unfinished form, exists already at this path
-abbrev pub present_answer : TaskView → List ℕ → Answer
-present_answer task path = refused_answer task.setup task.name (codes "is there already") (present_line path)
+abbrev pub present_outcome : TaskView → List ℕ → FileOutcome
+present_outcome task path = refused_outcome task.setup task.name (codes "is there already") (present_line path)
 
 -- the result of an image whose folder exists, and is skipped
-abbrev pub skipped_answer : TaskView → Answer
-skipped_answer task = record { printed = []; complaint = skipped_line task.done; verdict = Clean }
+abbrev pub skipped_outcome : TaskView → FileOutcome
+skipped_outcome task = record { printed = []; complaint = skipped_line task.done; verdict = Clean }
 
 -- the result if a folder cannot be made at this path, with the reason, if one is known
-abbrev pub unmade_answer : TaskView → List ℕ → Option Reason → Answer
-unmade_answer task path reason =
-    refused_answer task.setup task.name (codes "cannot be written") (with_known_reason reason (unwritten_line path))
+abbrev pub unmade_outcome : TaskView → List ℕ → Option Reason → FileOutcome
+unmade_outcome task path reason =
+    refused_outcome task.setup task.name (codes "cannot be written") (with_known_reason reason (unwritten_line path))
 
 -- the verdict on an image, if no write failed
 abbrev pub verdict_on : TaskView → Progress → Verdict
@@ -58,18 +58,18 @@ verdict_on task progress =
     if is_some progress.left then (if is_listing_amiss task.dump then Amiss else Clean) else Failed
 
 -- the result if all is written, and the folder has its name
-abbrev pub finished_answer : TaskView → Progress → Answer
-finished_answer task progress = record { printed = progress.printed; complaint = progress.complaint; verdict = verdict_on task progress }
+abbrev pub finished_outcome : TaskView → Progress → FileOutcome
+finished_outcome task progress = record { printed = progress.printed; complaint = progress.complaint; verdict = verdict_on task progress }
 
 -- the result if all is written, but the folder does not get its name, with the reason, if one is
 -- known
-abbrev pub unnamed_answer : TaskView → Progress → Option Reason → Answer
-unnamed_answer task progress reason =
-    refused_answer task.setup task.name (codes "cannot be written") (with_known_reason reason (progress.complaint ++ unwritten_line task.done))
+abbrev pub unnamed_outcome : TaskView → Progress → Option Reason → FileOutcome
+unnamed_outcome task progress reason =
+    refused_outcome task.setup task.name (codes "cannot be written") (with_known_reason reason (progress.complaint ++ unwritten_line task.done))
 
 -- the result if a write failed, and the folder keeps its name
-abbrev pub unfinished_answer : Progress → Answer
-unfinished_answer progress = record { printed = progress.printed; complaint = progress.complaint; verdict = Failed }
+abbrev pub unfinished_outcome : Progress → FileOutcome
+unfinished_outcome progress = record { printed = progress.printed; complaint = progress.complaint; verdict = Failed }
 
 -- all files have come: what comes after them is printed, and too many bytes are reported
 unfoldable pub closed_progress : TaskView → Progress → Progress
@@ -80,13 +80,13 @@ closed_progress task progress = record progress {
 
 -- the folder has its name, or does not get it
 abbrev pub after_naming : TaskView → Progress → Bool → Work
-after_naming task progress true = Done (finished_answer task progress)
-after_naming task progress false = Why (λ reason. Done (unnamed_answer task progress reason))
+after_naming task progress true = Done (finished_outcome task progress)
+after_naming task progress false = Why (λ reason. Done (unnamed_outcome task progress reason))
 
 -- the folder gets its name, if all was written
 unfoldable pub name_work : TaskView → Progress → Work
 name_work task progress =
-    if progress.has_failed then Done (unfinished_answer progress)
+    if progress.has_failed then Done (unfinished_outcome progress)
     else Then (Rename task.partial task.done) (after_naming task progress)
 
 -- the lines that waited are in the list of the files, or could not be written; then comes the rest
@@ -137,7 +137,7 @@ files_work task (row ∷ wanted_rows) progress =
 -- folder instead if that does not exist
 unfoldable pub unmade_work : TaskView → List ℕ → Work
 unmade_work task path =
-    Then (Look task.setup.into) (λ is_there. Why (λ reason. Done (unmade_answer task (if is_there then path else task.setup.into) reason)))
+    Then (Look task.setup.into) (λ is_there. Why (λ reason. Done (unmade_outcome task (if is_there then path else task.setup.into) reason)))
 
 -- the image's folder is made, and then its files
 unfoldable pub folder_work : TaskView → Work
@@ -161,14 +161,14 @@ folder_after task (Some path) = unmade_work task path
 unfoldable pub present_work : TaskView → Work
 present_work task =
     if task.setup.skips
-    then Then (Look (list_in task.done)) (λ is_complete. Done (if is_complete then skipped_answer task else present_answer task task.done))
-    else Done (present_answer task task.done)
+    then Then (Look (list_in task.done)) (λ is_complete. Done (if is_complete then skipped_outcome task else present_outcome task task.done))
+    else Done (present_outcome task task.done)
 
 -- unless the image's folder exists, complete or unfinished, it is made in these folders
 unfoldable pub task_work_with : TaskView → List (List ℕ) → Work
 task_work_with task folders =
     Then (Look task.done) (λ is_done. if is_done then present_work task
-    else Then (Look task.partial) (λ is_begun. if is_begun then Done (present_answer task task.partial)
+    else Then (Look task.partial) (λ is_begun. if is_begun then Done (present_outcome task task.partial)
     else folders_work (folder_after task) (path_inside task.setup.into) folders))
 
 -- the same in the folders of the image's path
@@ -182,11 +182,11 @@ task_of setup name dump =
 
 -- what is done with bytes: a dump is unpacked, and for other bytes the wrong length is reported
 abbrev pub dump_work : ExtractSetupView → List ℕ → Bytes → Option DumpView → Work
-dump_work setup name bytes None = Done (wrong_length_answer setup name bytes)
+dump_work setup name bytes None = Done (wrong_length_outcome setup name bytes)
 dump_work setup name bytes (Some dump) = task_work (task_of setup name dump)
 
 -- what is done with a file: with its bytes, or if it cannot be read. A name that is not UTF-8 is no
 -- file's
 unfoldable pub unpacking : ExtractSetupView → List ℕ → Option Bytes → Work
-unpacking setup name None = Done (unread_answer setup name)
-unpacking setup name (Some bytes) = if is_utf8 name then dump_work setup name bytes (dump_of bytes) else Done (unread_answer setup name)
+unpacking setup name None = Done (unread_outcome setup name)
+unpacking setup name (Some bytes) = if is_utf8 name then dump_work setup name bytes (dump_of bytes) else Done (unread_outcome setup name)

@@ -6,7 +6,7 @@ use Rattle.host_storage.specs.Files.{Files, HostState}
 use Rattle.host_storage.specs.Folders.{folder_name, with_folder, with_stored_file, with_moved, Looks, Makes, Extends, CountsMaking}
 use Rattle.host_storage.specs.declared.host.FolderFault.{FolderFault}
 use Rattle.host_storage.specs.declared.host.FolderFault.TheVariants.{Exists, Device}
-use Rattle.program_surveys.specs.Answers.{Answer}
+use Rattle.program_surveys.specs.FileOutcomes.{FileOutcome}
 use Rattle.program_console.specs.Reasons.{IsWriteReason}
 use Rattle.program_console.specs.declared.reason.Reason.{Reason}
 use Rattle.program_surveys.specs.declared.report.Verdict.{Verdict}
@@ -31,17 +31,17 @@ pub data HostCall : Type 0 where
 -- it returns; or the host gives the reason why the last call was refused, and the rest depends on
 -- that
 pub data Work : Type 0 where
-  Done : Answer → Work
+  Done : FileOutcome → Work
   Then : HostCall → (Bool → Work) → Work
   Why : (Option Reason → Work) → Work
 
 -- a call that makes something new at a path had this result
 abbrev pub IsTried : (Files → Files) → HostState → List ℕ → Result (Unit {0}) FolderFault → HostState → Type 0
-IsTried change old path answer new = Makes change old.files path answer new.files × CountsMaking old.failures new.failures answer
+IsTried change old path outcome new = Makes change old.files path outcome new.files × CountsMaking old.failures new.failures outcome
 
 -- what has another path then was a folder
 abbrev pub WasFolder : HostState → List ℕ → Result (Unit {0}) FolderFault → Type 0
-WasFolder old path answer = OnOk answer (IfSome old.files (λ all. contains_key all (folder_name path) ≡ true))
+WasFolder old path outcome = OnOk outcome (IfSome old.files (λ all. contains_key all (folder_name path) ≡ true))
 
 -- a folder was made, or existed
 abbrev pub is_had : Result (Unit {0}) FolderFault → Bool
@@ -52,32 +52,32 @@ is_had (Err Device) = false
 -- what the call for a new file returns, by whether its path is UTF-8: if not, no file is made
 abbrev pub SaysFile : Bool → List ℕ → List ℕ → HostState → Bool → HostState → Type 0
 SaysFile true path bytes old said new =
-    (answer : Result (Unit {0}) FolderFault) × IsTried (with_stored_file path bytes) old path answer new × (said ≡ is_ok answer)
+    (outcome : Result (Unit {0}) FolderFault) × IsTried (with_stored_file path bytes) old path outcome new × (said ≡ is_ok outcome)
 SaysFile false path bytes old said new = (said ≡ false) × (new ≡ old)
 
 -- what the call that appends to such a file returns
 abbrev pub SaysMore : Bool → List ℕ → List ℕ → HostState → Bool → HostState → Type 0
 SaysMore true path bytes old said new =
-    (answer : Result (Unit {0}) FolderFault)
-    × Extends path bytes old.files answer new.files × CountsMaking old.failures new.failures answer × (said ≡ is_ok answer)
+    (outcome : Result (Unit {0}) FolderFault)
+    × Extends path bytes old.files outcome new.files × CountsMaking old.failures new.failures outcome × (said ≡ is_ok outcome)
 SaysMore false path bytes old said new = (said ≡ false) × (new ≡ old)
 
 -- what a call may return, and the state of the host then
 abbrev pub CallReturns : HostCall → HostState → Bool → HostState → Type 0
 CallReturns (Look path) old said new = Looks old.files path said × (new ≡ old)
 CallReturns (Folder path) old said new =
-    (answer : Result (Unit {0}) FolderFault) × IsTried (with_folder path) old path answer new × (said ≡ is_had answer)
+    (outcome : Result (Unit {0}) FolderFault) × IsTried (with_folder path) old path outcome new × (said ≡ is_had outcome)
 CallReturns (NewFolder path) old said new =
-    (answer : Result (Unit {0}) FolderFault) × IsTried (with_folder path) old path answer new × (said ≡ is_ok answer)
+    (outcome : Result (Unit {0}) FolderFault) × IsTried (with_folder path) old path outcome new × (said ≡ is_ok outcome)
 CallReturns (NewFile path bytes) old said new = SaysFile (is_utf8 path) path bytes old said new
 CallReturns (MoreOfFile path bytes) old said new = SaysMore (is_utf8 path) path bytes old said new
 CallReturns (Rename from to) old said new =
-    (answer : Result (Unit {0}) FolderFault) × IsTried (with_moved from to) old to answer new × WasFolder old from answer × (said ≡ is_ok answer)
+    (outcome : Result (Unit {0}) FolderFault) × IsTried (with_moved from to) old to outcome new × WasFolder old from outcome × (said ≡ is_ok outcome)
 
 -- work is done, from one state of the host to another, with a result, or None if memory ran out:
 -- that may happen before each call, and before the result
-unfoldable pub DoesWork : Work → HostState → Option Answer → HostState → Type 0
-DoesWork (Done answer) old given new = (new ≡ old) × ((given ≡ Some answer) ⊎ (given ≡ None))
+unfoldable pub DoesWork : Work → HostState → Option FileOutcome → HostState → Type 0
+DoesWork (Done outcome) old given new = (new ≡ old) × ((given ≡ Some outcome) ⊎ (given ≡ None))
 DoesWork (Then call next) old given new =
     ((said : Bool) × (middle : HostState) × CallReturns call old said middle × DoesWork (next said) middle given new)
     ⊎ ((new ≡ old) × (given ≡ None))
@@ -88,7 +88,7 @@ DoesWork (Why next) old given new =
 -- the beginning of one piece of work leads to another piece: whatever that one does from here, the
 -- first one may do
 abbrev pub LeadsTo : Work → HostState → Work → HostState → Type 0
-LeadsTo work old rest now = (given : Option Answer) (new : HostState) → DoesWork rest now given new → DoesWork work old given new
+LeadsTo work old rest now = (given : Option FileOutcome) (new : HostState) → DoesWork rest now given new → DoesWork work old given new
 
 -- how a part of the work ends: with the rest to be done, or as memory ran out
 abbrev pub Comes : {A E : Type 0} → Result A E → Work → HostState → Work → HostState → Type 0
@@ -96,10 +96,10 @@ Comes (Ok done) work old rest now = LeadsTo work old rest now
 Comes (Err fault) work old rest now = DoesWork work old None now
 
 -- the result in the buffer, with this verdict
-abbrev pub answer_in : ReportBuffer → Verdict → Answer
-answer_in buffer verdict = record { printed = buffer.printed.items; complaint = buffer.complaint.items; verdict = verdict }
+abbrev pub outcome_in : ReportBuffer → Verdict → FileOutcome
+outcome_in buffer verdict = record { printed = buffer.printed.items; complaint = buffer.complaint.items; verdict = verdict }
 
 -- how work ends: with the result in the buffer, or as memory ran out
 abbrev pub EndsWork : {E : Type 0} → Result Verdict E → ReportBuffer → Work → HostState → HostState → Type 0
-EndsWork (Ok verdict) buffer work old new = DoesWork work old (Some (answer_in buffer verdict)) new
+EndsWork (Ok verdict) buffer work old new = DoesWork work old (Some (outcome_in buffer verdict)) new
 EndsWork (Err fault) buffer work old new = DoesWork work old None new

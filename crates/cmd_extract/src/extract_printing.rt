@@ -8,7 +8,7 @@ use crate::extracted::{
 use d64_leftovers::ListedRow;
 use d64_survey::Survey;
 use out_files::Form;
-use out_json_csv::{Scratch, no_dump_error, no_dump_json, unanswered_json};
+use out_json_csv::{Scratch, failed_json, no_dump_error, no_dump_json};
 use program_arguments::Format;
 use std::alloc::AllocError;
 
@@ -62,7 +62,7 @@ pub(crate) fn print_error(
 {
     match form.format {
         Format::Text => Ok(out),
-        Format::Json => unanswered_json(scratch, name, error, out),
+        Format::Json => failed_json(scratch, name, error, out),
         Format::Csv => unextracted_csv(form.leftovers, scratch, name, error.as_bytes(), out),
     }
 }

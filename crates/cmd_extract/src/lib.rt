@@ -4,7 +4,6 @@
 //! `extract_files` does all of it, from the request of the arguments to the exit status.
 #![tactic(auto)]
 
-mod answering;
 mod calls;
 mod extract_printing;
 mod extracted;
@@ -17,6 +16,7 @@ mod setup;
 mod task;
 pub mod unpack_laws;
 mod unpacker;
+mod verdicts;
 
 pub use job::extract_files;
 pub use setup::ExtractSetup;

@@ -7,10 +7,10 @@ ghost use Rattle.out_messages.specs.FaultLines.{unwritten_line};
 ghost use Rattle.program_console.specs.Reasons.{with_known_reason};
 ghost use Rattle.cmd_extract.specs.declared.list_state.ListState.TheVariants.{New as not_there};
 
-use crate::answering::add_unwritten;
 use crate::extract_printing::print_file;
 use crate::list_state::ListState;
 use crate::setup::Task;
+use crate::verdicts::add_unwritten;
 use d64_leftovers::ListedRow;
 use out_files::print_before;
 use out_json_csv::Scratch;

@@ -7,14 +7,14 @@ ghost use Rattle.cmd_extract.specs.FilesNow.{progress_of_files};
 ghost use Rattle.cmd_extract.specs.Setup.{list_in};
 ghost use Rattle.cmd_extract.specs.Unpacking.{name_work, unmade_work, folder_work, folders_work, folder_after, present_work, task_work_with};
 
-use crate::answering::{
-    report_finished, report_present, report_skipped, report_unfinished, report_unmade,
-    report_unnamed,
-};
 use crate::calls::{is_there, make_folder, reason_at, rename};
 use crate::files::Files;
 use crate::folders::have_folders;
 use crate::setup::Task;
+use crate::verdicts::{
+    report_finished, report_present, report_skipped, report_unfinished, report_unmade,
+    report_unnamed,
+};
 use host_names::path_inside;
 use host_storage::Host;
 use program_surveys::{ReportBuffer, Verdict};

@@ -4,10 +4,10 @@ ghost use Rattle.d64_g64.specs.DumpOf.{dump_of};
 ghost use Rattle.cmd_extract.specs.Work.{EndsWork};
 ghost use Rattle.cmd_extract.specs.Unpacking.{task_work, task_of, unpacking};
 
-use crate::answering::{report_unread, report_wrong_length};
 use crate::extract_printing::print_extract_heading;
 use crate::files::Files;
 use crate::setup::{ExtractSetup, Task};
+use crate::verdicts::{report_unread, report_wrong_length};
 use d64_image::Image;
 use d64_survey::{Dump, DumpFault, Fault, Inspection, ReadError};
 use host_names::{ImagePlace, done_path, partial_path};
@@ -134,7 +134,7 @@ impl FileTask for Unpacker {
         Ok(())
     }
 
-    fn answer<H: Host>(
+    fn process_file<H: Host>(
         &mut self,
         name: &[u8],
         bytes: Option<&[u8]>,

@@ -11,10 +11,10 @@ use Rattle.program_arguments.specs.declared.jobs.Format.{Format}
 use Rattle.program_arguments.specs.declared.jobs.Format.TheVariants.{Text, Json, Csv}
 use Rattle.program_arguments.specs.declared.jobs.Leftovers.{Leftovers}
 use Rattle.out_json_csv.specs.Values.{line_of}
-use Rattle.out_json_csv.specs.Unanswered.{unread_object, no_dump_object, no_dump_error}
-use Rattle.program_surveys.specs.Answers.{Rule}
+use Rattle.out_json_csv.specs.FailedDumps.{unread_object, no_dump_object, no_dump_error}
+use Rattle.program_surveys.specs.FileOutcomes.{Rule}
 use Rattle.program_surveys.specs.Printings.{Printing, survey_rule}
-use Rattle.out_files.specs.CsvRow.{csv_row, file_header_row, unanswered_file_row}
+use Rattle.out_files.specs.CsvRow.{csv_row, file_header_row, failed_file_row}
 use Rattle.cmd_files.specs.Selections.{files_alone, deleted_alone, orphans_alone}
 use Rattle.out_files.specs.Forms.{files_and, before_rows, after_rows}
 use Rattle.out_files.specs.RowObject.{row_object}
@@ -77,13 +77,13 @@ printed_of form name dump =
 abbrev pub printed_unread : Format → Leftovers → Bytes → List ℕ
 printed_unread Text leftovers name = []
 printed_unread Json leftovers name = line_of (unread_object name)
-printed_unread Csv leftovers name = unanswered_file_row leftovers name (codes "cannot be read")
+printed_unread Csv leftovers name = failed_file_row leftovers name (codes "cannot be read")
 
 -- what is printed of bytes that are not a dump
 abbrev pub printed_no_dump : Format → Leftovers → Bytes → Bytes → List ℕ
 printed_no_dump Text leftovers name bytes = []
 printed_no_dump Json leftovers name bytes = line_of (no_dump_object name bytes)
-printed_no_dump Csv leftovers name bytes = unanswered_file_row leftovers name (no_dump_error bytes)
+printed_no_dump Csv leftovers name bytes = failed_file_row leftovers name (no_dump_error bytes)
 
 -- what is printed before the first result: the header row of CSV
 abbrev pub heading_by : Format → Leftovers → List ℕ

@@ -2,7 +2,7 @@
 use Rattle.std.specs.Prelude.{ℕ, List, []}
 use Rattle.d64_survey.specs.Dump.{DumpView}
 use Rattle.d64_survey.specs.Inspection.{is_amiss}
-use Rattle.program_surveys.specs.Answers.{Rule}
+use Rattle.program_surveys.specs.FileOutcomes.{Rule}
 use Rattle.program_surveys.specs.Printings.{Printing, survey_rule}
 use Rattle.program_arguments.specs.declared.jobs.PictureForm.{PictureForm}
 use Rattle.program_arguments.specs.declared.jobs.PictureForm.TheVariants.{Text, Svg}

@@ -3,11 +3,11 @@ use Rattle.std.specs.Prelude.{◌≡◌, ◌⊎◌, ℕ, Bool, List, [], ◌∷�
 use Rattle.host_storage.specs.Files.{HostState}
 use Rattle.host_storage.specs.Folders.{Looks}
 use Rattle.host_storage.specs.declared.host.FolderFault.{FolderFault}
-use Rattle.program_surveys.specs.Answers.{Answer}
+use Rattle.program_surveys.specs.FileOutcomes.{FileOutcome}
 use Rattle.program_surveys.specs.Runs.{IsCut, IsReported, RunState}
 use Rattle.program_arguments.specs.declared.jobs.DiffForm.{DiffForm}
 use Rattle.cmd_merge.specs.Setup.{MergeSetupView}
-use Rattle.cmd_merge.specs.Reports.{ReadingsView, no_readings, with_read_file, file_present_answer}
+use Rattle.cmd_merge.specs.Reports.{ReadingsView, no_readings, with_read_file, file_present_outcome}
 use Rattle.cmd_merge.specs.Finishing.{Finishes, IsFileMade}
 use Rattle.program_surveys.specs.JobEnds.{EndedRun}
 use Rattle.program_console.specs.declared.stream_fault.StreamFault.{StreamFault}
@@ -22,17 +22,17 @@ ReadsFiles form (name ∷ names) old begun new read =
     (contents : Contents) × (middle : HostState) × IsReadAs name old contents middle × ReadsFiles form names middle (with_read_file form name contents begun) new read
 
 -- all files were read, and the merge ended with this result
-pub record MergesRead (setup : MergeSetupView) (old : HostState) (answer : Answer) (new : HostState) : Type 0 where
+pub record MergesRead (setup : MergeSetupView) (old : HostState) (outcome : FileOutcome) (new : HostState) : Type 0 where
   pub middle : HostState
   pub readings : ReadingsView
   pub read : ReadsFiles setup.form setup.names old no_readings middle readings
-  pub finished : Finishes setup readings middle answer new
+  pub finished : Finishes setup readings middle outcome new
 
 -- the file that is to be made was looked for: it was there, and nothing else was done; or it was
 -- not there, and the files were merged
-abbrev pub AnswersMerge : MergeSetupView → HostState → Answer → HostState → Type 0
-AnswersMerge setup old answer new =
-    (there : Bool) × Looks old.files setup.out there × MatchBool there ((new ≡ old) × (answer ≡ file_present_answer setup)) (MergesRead setup old answer new)
+abbrev pub ConcludesMerge : MergeSetupView → HostState → FileOutcome → HostState → Type 0
+ConcludesMerge setup old outcome new =
+    (there : Bool) × Looks old.files setup.out there × MatchBool there ((new ≡ old) × (outcome ≡ file_present_outcome setup)) (MergesRead setup old outcome new)
 
 -- how far a merge came if memory ran out: no file was changed, except that the one to be made may
 -- have been made, whole
@@ -44,9 +44,9 @@ CameSoFar setup old new =
 -- how a merge ends: its result was written, or the output failed while it was written, or memory
 -- ran out and nothing was written
 abbrev pub Merges : {A : Type 0} → MergeSetupView → RunState → RunState → Result A StreamFault → Type 0
-Merges setup first last (Ok done) = (answer : Answer) × AnswersMerge setup first.host answer last.host × IsReported answer first.reported last.reported
+Merges setup first last (Ok done) = (outcome : FileOutcome) × ConcludesMerge setup first.host outcome last.host × IsReported outcome first.reported last.reported
 Merges setup first last (Err Read) = ⊥
-Merges setup first last (Err Write) = (answer : Answer) × AnswersMerge setup first.host answer last.host × IsCut answer first.reported last.reported
+Merges setup first last (Err Write) = (outcome : FileOutcome) × ConcludesMerge setup first.host outcome last.host × IsCut outcome first.reported last.reported
 Merges setup first last (Err Memory) = CameSoFar setup first.host last.host × (last.reported ≡ first.reported)
 
 -- a merge has ended, which read nothing of the input

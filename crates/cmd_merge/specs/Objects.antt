@@ -13,7 +13,7 @@ use Rattle.d64_merge.specs.declared.outcome.BlockOutcome.{BlockOutcome}
 use Rattle.d64_merge.specs.declared.outcome.BlockOutcome.TheVariants.{Same, Taken, Lost, Majority, First, Conflict}
 use Rattle.out_json_csv.specs.Pairs.{block_field}
 use Rattle.out_json_csv.specs.Values.{Field, object_of, array_of, numeral, numeral_or_null, line_of}
-use Rattle.out_json_csv.specs.Unanswered.{host_value}
+use Rattle.out_json_csv.specs.FailedDumps.{host_value}
 
 -- the word for what became of a block
 abbrev pub outcome_word : BlockOutcome → List ℕ

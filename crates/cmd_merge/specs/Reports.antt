@@ -10,7 +10,7 @@ use Rattle.d64_merge.specs.declared.choice.Choice.{Choice}
 use Rattle.d64_merge.specs.declared.outcome.BlockOutcome.TheVariants.{Lost, First, Conflict}
 use Rattle.out_json_csv.specs.Values.{line_of}
 use Rattle.out_messages.specs.FaultLines.{present_line, unwritten_line}
-use Rattle.program_surveys.specs.Answers.{Answer}
+use Rattle.program_surveys.specs.FileOutcomes.{FileOutcome}
 use Rattle.program_console.specs.Reasons.{with_known_reason}
 use Rattle.program_console.specs.declared.reason.Reason.{Reason}
 use Rattle.program_surveys.specs.declared.report.Verdict.{Verdict}
@@ -56,8 +56,8 @@ with_read_file form name (Ok bytes) readings = with_file_bytes form name bytes (
 with_read_file form name (Err reason) readings = with_fault form name (Err reason) readings
 
 -- each file is a dump
-abbrev pub is_answered : ReadingsView → Bool
-is_answered readings = length readings.complaint == 0
+abbrev pub are_dumps : ReadingsView → Bool
+are_dumps readings = length readings.complaint == 0
 
 -- what becomes of the blocks
 abbrev pub choices_of : MergeSetupView → ReadingsView → List Choice
@@ -84,23 +84,23 @@ report_of setup readings digest =
     (choices_of setup readings) (left_of setup readings) digest
 
 -- the result if the file that was to be made is there already
-abbrev pub file_present_answer : MergeSetupView → Answer
-file_present_answer setup = record { printed = []; complaint = present_line setup.out; verdict = Failed }
+abbrev pub file_present_outcome : MergeSetupView → FileOutcome
+file_present_outcome setup = record { printed = []; complaint = present_line setup.out; verdict = Failed }
 
 -- the result if a file is no dump or cannot be read
-abbrev pub faulted_answer : ReadingsView → Answer
-faulted_answer readings = record { printed = readings.printed; complaint = readings.complaint; verdict = Failed }
+abbrev pub faulted_outcome : ReadingsView → FileOutcome
+faulted_outcome readings = record { printed = readings.printed; complaint = readings.complaint; verdict = Failed }
 
 -- the verdict: amiss if a block is lost, taken from the first good copy, or in conflict, else clean
 abbrev pub merge_verdict : List Choice → Verdict
 merge_verdict list = if outcome_count Lost list + outcome_count First list + outcome_count Conflict list == 0 then Clean else Amiss
 
 -- the result if the file was made of these bytes; None if a conflict forbade it
-abbrev pub merged_answer : MergeSetupView → ReadingsView → Option Bytes → Answer
-merged_answer setup readings bytes =
+abbrev pub merged_outcome : MergeSetupView → ReadingsView → Option Bytes → FileOutcome
+merged_outcome setup readings bytes =
     record { printed = report_of setup readings (option_map sha256 bytes); complaint = []; verdict = merge_verdict (choices_of setup readings) }
 
 -- the result if the file cannot be made, with the reason, if one is known
-abbrev pub unwritten_answer : MergeSetupView → ReadingsView → Option Reason → Answer
-unwritten_answer setup readings reason =
+abbrev pub unwritten_outcome : MergeSetupView → ReadingsView → Option Reason → FileOutcome
+unwritten_outcome setup readings reason =
     record { printed = report_of setup readings None; complaint = with_known_reason reason (unwritten_line setup.out); verdict = Failed }

@@ -1,9 +1,9 @@
 //! How a merge ends after its files were read.
 ghost use Rattle.std.specs.Prelude.{◌≡◌, IfOk, IfErr, OnOk, false, true, option_map};
 ghost use Rattle.d64_survey.specs.Dump.{dump_bytes};
-ghost use Rattle.program_surveys.specs.Answers.{answer_of};
+ghost use Rattle.program_surveys.specs.FileOutcomes.{file_outcome};
 ghost use Rattle.cmd_merge.specs.Finishing.{Finishes, WritesMerged, MayHaveMade};
-ghost use Rattle.cmd_merge.specs.Reports.{made, choices_of, left_of, file_present_answer, faulted_answer, merged_answer, unwritten_answer};
+ghost use Rattle.cmd_merge.specs.Reports.{made, choices_of, left_of, file_present_outcome, faulted_outcome, merged_outcome, unwritten_outcome};
 
 use crate::readings::Readings;
 use crate::report::{Plan, plan_of, print_report, verdict_on};
@@ -20,7 +20,7 @@ use std::mem;
 
 /// Replaces the buffer's contents by the line that the file to be made is there already.
 pub fn say_present(setup: &MergeSetup, buffer: &mut ReportBuffer) -> Result<Verdict, AllocError>
-    ensures { IfOk result (λ verdict. answer_of buffer.new.printed.items buffer.new.complaint.items verdict ≡ file_present_answer setup.now) }
+    ensures { IfOk result (λ verdict. file_outcome buffer.new.printed.items buffer.new.complaint.items verdict ≡ file_present_outcome setup.now) }
 {
     buffer.clear();
     present_line(&mut buffer.complaint, setup.out.as_bytes())?;
@@ -30,7 +30,7 @@ pub fn say_present(setup: &MergeSetup, buffer: &mut ReportBuffer) -> Result<Verd
 /// Replaces the buffer's contents by what is printed and reported of the files that are no dumps
 /// or cannot be read.
 fn say_faults(readings: &Readings, buffer: &mut ReportBuffer) -> Result<Verdict, AllocError>
-    ensures { IfOk result (λ verdict. answer_of buffer.new.printed.items buffer.new.complaint.items verdict ≡ faulted_answer readings.now) }
+    ensures { IfOk result (λ verdict. file_outcome buffer.new.printed.items buffer.new.complaint.items verdict ≡ faulted_outcome readings.now) }
 {
     buffer.clear();
     buffer.printed.extend_from_slice(&readings.printed)?;
@@ -50,7 +50,7 @@ fn say_merged(
 ) -> Result<Verdict, AllocError>
     requires list { plan.now.list.items ≡ choices_of setup.now readings.now }
     requires left { plan.now.left.items ≡ left_of setup.now readings.now }
-    ensures { IfOk result (λ verdict. answer_of buffer.new.printed.items buffer.new.complaint.items verdict ≡ merged_answer setup.now readings.now (option_map (λ bytes. bytes.now) bytes.entry)) }
+    ensures { IfOk result (λ verdict. file_outcome buffer.new.printed.items buffer.new.complaint.items verdict ≡ merged_outcome setup.now readings.now (option_map (λ bytes. bytes.now) bytes.entry)) }
 {
     buffer.clear();
     let digest = match bytes {
@@ -75,7 +75,7 @@ fn say_unwritten(
 ) -> Result<Verdict, AllocError>
     requires list { plan.now.list.items ≡ choices_of setup.now readings.now }
     requires left { plan.now.left.items ≡ left_of setup.now readings.now }
-    ensures { IfOk result (λ verdict. answer_of buffer.new.printed.items buffer.new.complaint.items verdict ≡ unwritten_answer setup.now readings.now reason) }
+    ensures { IfOk result (λ verdict. file_outcome buffer.new.printed.items buffer.new.complaint.items verdict ≡ unwritten_outcome setup.now readings.now reason) }
 {
     buffer.clear();
     let out = mem::replace(&mut buffer.printed, Vec::new(alloc));
@@ -99,7 +99,7 @@ fn write<H: Host>(
     requires list { plan.now.list.items ≡ choices_of setup.now readings.now }
     requires left { plan.now.left.items ≡ left_of setup.now readings.now }
     ensures written { IfOk result (λ verdict. WritesMerged setup.now readings.now (option_map dump_bytes (made setup.now readings.now)) (H.state host.old)
-        (answer_of buffer.new.printed.items buffer.new.complaint.items verdict) (H.state host.new)) }
+        (file_outcome buffer.new.printed.items buffer.new.complaint.items verdict) (H.state host.new)) }
     ensures memory { IfErr result (λ error. MayHaveMade setup.now (option_map dump_bytes (made setup.now readings.now)) (H.state host.old) (H.state host.new)) }
 {
     let with_codes = keeps_codes(setup.plain, &readings.dumps);
@@ -126,10 +126,10 @@ pub fn finish<H: Host>(
     buffer: &mut ReportBuffer,
 ) -> Result<Verdict, AllocError>
     ensures finished { IfOk result (λ verdict. Finishes setup.now readings.now (H.state host.old)
-        (answer_of buffer.new.printed.items buffer.new.complaint.items verdict) (H.state host.new)) }
+        (file_outcome buffer.new.printed.items buffer.new.complaint.items verdict) (H.state host.new)) }
     ensures memory { IfErr result (λ error. MayHaveMade setup.now (option_map dump_bytes (made setup.now readings.now)) (H.state host.old) (H.state host.new)) }
 {
-    if !readings.is_answered() {
+    if !readings.are_dumps() {
         return say_faults(readings, buffer);
     }
     let plan = plan_of(alloc, setup, readings)?;

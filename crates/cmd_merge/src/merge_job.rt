@@ -1,8 +1,8 @@
 //! The run of `merge`: one file, made of the dumps of several files.
 ghost use Rattle.std.specs.Prelude.{◌≡◌, IfErr, IfOk, OnOk, [], map, string_bytes};
-ghost use Rattle.program_surveys.specs.Answers.{answer_of};
+ghost use Rattle.program_surveys.specs.FileOutcomes.{file_outcome};
 ghost use Rattle.program_surveys.specs.declared.report.Verdict.TheVariants.{Clean};
-ghost use Rattle.cmd_merge.specs.Merges.{AnswersMerge, CameSoFar, Merges, ReadsFiles};
+ghost use Rattle.cmd_merge.specs.Merges.{ConcludesMerge, CameSoFar, Merges, ReadsFiles};
 
 use crate::finishing::{finish, say_present};
 use crate::readings::Readings;
@@ -33,13 +33,13 @@ impl<'n> MergeJob<'n> {
     ///
     /// It is a function of its own: otherwise each job would take memory for the dumps.
     #[inline(never)]
-    fn answer<H: Host>(
+    fn merge<H: Host>(
         &self,
         buffer: &mut ReportBuffer,
         host: &mut H,
     ) -> Result<Verdict, StreamFault>
-        ensures answered { IfOk result (λ verdict. AnswersMerge self.now.setup.now (H.state host.old)
-            (answer_of buffer.new.printed.items buffer.new.complaint.items verdict) (H.state host.new)) }
+        ensures concluded { IfOk result (λ verdict. ConcludesMerge self.now.setup.now (H.state host.old)
+            (file_outcome buffer.new.printed.items buffer.new.complaint.items verdict) (H.state host.new)) }
         ensures quiet { IfOk result (λ verdict. verdict ≡ Clean → buffer.new.complaint.items ≡ []) }
         ensures memory { IfErr result (λ fault. (fault ≡ StreamFault.Memory) × CameSoFar self.now.setup.now (H.state host.old) (H.state host.new)) }
     {
@@ -87,7 +87,7 @@ impl<'n> WholeTask for MergeJob<'n> {
         outputs: &mut Outputs<'_, W, F>,
         host: &mut H,
     ) -> Result<(), StreamFault> {
-        let verdict = self.answer(&mut batch.buffer, host)?;
+        let verdict = self.merge(&mut batch.buffer, host)?;
         batch.report_result(verdict, outputs)?;
         Ok(())
     }

@@ -2,7 +2,7 @@
 ghost use Rattle.std.specs.Prelude.{◌≡◌, Ok as read, Err as not_read, Some, None, ◌++◌, ◌∷◌, [], OnOk, length};
 ghost use Rattle.d64_g64.specs.DumpOf.{dump_of};
 ghost use Rattle.program_surveys.specs.FileContents.{contents_by};
-ghost use Rattle.cmd_merge.specs.Reports.{no_readings, with_dump, with_fault, with_file_bytes, with_read_file, is_answered};
+ghost use Rattle.cmd_merge.specs.Reports.{no_readings, with_dump, with_fault, with_file_bytes, with_read_file, are_dumps};
 
 use d64_image::Image;
 use d64_survey::{Dump, DumpFault};
@@ -56,8 +56,8 @@ impl Readings {
     }
 
     /// Whether each file is a dump.
-    pub(crate) fn is_answered(&self) -> bool
-        ensures { result ≡ is_answered self.now }
+    pub(crate) fn are_dumps(&self) -> bool
+        ensures { result ≡ are_dumps self.now }
     {
         self.complaint.is_empty()
     }

@@ -6,8 +6,8 @@ use Rattle.std.proofs.KnownBytes.{Appends-nil, Appends-trans}
 use Rattle.std.proofs.lemmas.Bool.{false≢true}
 use Rattle.std.proofs.lemmas.List.{map-append, nil_from_length}
 use Rattle.host_storage.specs.Output.{AppendsPart}
-use Rattle.script_commands.specs.Line.{IsAnswered, IsSkipped}
-use Rattle.script_commands.specs.Act.{printed_bytes, LineAnswer, World}
+use Rattle.script_commands.specs.Line.{IsExecuted, IsSkipped}
+use Rattle.script_commands.specs.Act.{printed_bytes, LineResponse, World}
 use Rattle.script_text.specs.Status.{is_accepted}
 use Rattle.cmd_shell.specs.Transcript.{ends_script, RunOptions, RunProgress, Transcript, counted_progress}
 use Rattle.cmd_shell.specs.Runner.{ScriptState, first_progress, RanLines, StoppedAt}
@@ -17,7 +17,7 @@ use Rattle.cmd_shell.specs.declared.runner.LineRunner.{LineRunner}
 use Rattle.cmd_shell.specs.declared.runner.Tally.{Tally}
 use Rattle.cmd_shell.proofs.ScriptLines.{lines_in-append, lines_in-ended, lines_in-last}
 use Rattle.cmd_shell.proofs.ScriptRuns.{RanLines-closed}
-use Rattle.cmd_shell.proofs.Transcripts.{Line-answered, Line-skipped, Transcript-line}
+use Rattle.cmd_shell.proofs.Transcripts.{Line-executed, Line-skipped, Transcript-line}
 
 -- a run that begins
 pub RanLines-none : (options : RunOptions) (reached : ScriptState) (tally : Tally) → tally ≡ record { outcome = record { accepted = 0; refused = 0 }; closed = false }
@@ -66,9 +66,9 @@ StoppedAt-line options first old new lines rest all line before ran open_run sto
   middle = progress_of before old.world;
   reported = ran.reported;
   open_run = open_run;
-  answer = stops.said;
+  response = stops.said;
   after = stops.after;
-  answered = stops.reported;
+  executed = stops.reported;
   part = stops.part.part;
   unwritten = stops.part.rest;
   parts = stops.part.all;
@@ -120,23 +120,23 @@ RunsLine-skipped options raw writer world after tally skipped =
     })
 
 -- a line that prints has run, and what it prints was written, or a write of it failed
-pub EndsLine-answered : {E : Type 0} (options : RunOptions) (raw : List ℕ) (old new : Option (List ℕ)) (world left : World) (before after : Tally) (answer : LineAnswer) (wrote : Result (Unit {0}) E)
-    → IsAnswered options.home world.history raw world answer left → after.closed ≡ (answer.closes || ends_script options.refusals answer.status)
-    → after.outcome.accepted ≡ before.outcome.accepted + (if is_accepted answer.status then 1 else 0)
-    → after.outcome.refused ≡ before.outcome.refused + (if is_accepted answer.status then 0 else 1)
-    → OnOk wrote (Appends old new (printed_bytes answer)) → OnErr wrote (AppendsPart old new (printed_bytes answer))
+pub EndsLine-executed : {E : Type 0} (options : RunOptions) (raw : List ℕ) (old new : Option (List ℕ)) (world left : World) (before after : Tally) (response : LineResponse) (wrote : Result (Unit {0}) E)
+    → IsExecuted options.home world.history raw world response left → after.closed ≡ (response.closes || ends_script options.refusals response.status)
+    → after.outcome.accepted ≡ before.outcome.accepted + (if is_accepted response.status then 1 else 0)
+    → after.outcome.refused ≡ before.outcome.refused + (if is_accepted response.status then 0 else 1)
+    → OnOk wrote (Appends old new (printed_bytes response)) → OnErr wrote (AppendsPart old new (printed_bytes response))
     → MatchResult wrote
     (λ _. RunsLine options raw (record { writer = old; world = world }) (record { writer = new; world = left }) before after)
     (λ _. StopsInLine options raw (record { writer = old; world = world }) (record { writer = new; world = left }) before)
-EndsLine-answered options raw old new world left before after answer (Ok done) answered closes accepted refused written part = record {
-  said = printed_bytes answer;
-  reported = rw (closes, accepted, refused) (Line-answered options raw (progress_of before world) answer left answered);
+EndsLine-executed options raw old new world left before after response (Ok done) executed closes accepted refused written part = record {
+  said = printed_bytes response;
+  reported = rw (closes, accepted, refused) (Line-executed options raw (progress_of before world) response left executed);
   written = written;
 }
-EndsLine-answered options raw old new world left before after answer (Err error) answered closes accepted refused written part = record {
-  said = printed_bytes answer;
-  after = counted_progress options.refusals (progress_of before world) answer left;
-  reported = Line-answered options raw (progress_of before world) answer left answered;
+EndsLine-executed options raw old new world left before after response (Err error) executed closes accepted refused written part = record {
+  said = printed_bytes response;
+  after = counted_progress options.refusals (progress_of before world) response left;
+  reported = Line-executed options raw (progress_of before world) response left executed;
   part = part;
   world = refl;
 }

@@ -64,7 +64,7 @@ record LastLine (options : RunOptions) (lines : List (List ℕ)) (start : RunPro
   middle : RunProgress
   reported : Transcript options before start early middle
   open_run : middle.closed ≡ false
-  answered : Line options line middle said after
+  executed : Line options line middle said after
 
 open_before : (options : RunOptions) (lines : List (List ℕ)) (start : RunProgress) (out : List ℕ) (after : RunProgress)
     → Transcript options lines start out after → after.closed ≡ false → start.closed ≡ false
@@ -88,7 +88,7 @@ last_line options (line ∷ []) start out after some reported is_open =
       middle = start;
       reported = (refl, refl);
       open_run = at_start;
-      answered = subst (λ p. Line options line start said p) (sym others.1) (opened start.closed (IsSilent start said next) (Line options line start said next) at_start one);
+      executed = subst (λ p. Line options line start said p) (sym others.1) (opened start.closed (IsSilent start said next) (Line options line start said next) at_start one);
     }
 last_line options (line ∷ second ∷ lines) start out after some reported is_open =
     let (said, rest, next, split, one, others) = reported in
@@ -103,7 +103,7 @@ last_line options (line ∷ second ∷ lines) start out after some reported is_o
       middle = last.middle;
       reported = (said, last.early, next, refl, one, last.reported);
       open_run = last.open_run;
-      answered = last.answered;
+      executed = last.executed;
     }
 
 -- if a line has printed, there is a line
@@ -130,9 +130,9 @@ StoppedAt-flush options first reached lines after flushed ran is_open some kept 
       middle = last.middle;
       reported = last.reported;
       open_run = last.open_run;
-      answer = last.said;
+      response = last.said;
       after = after;
-      answered = last.answered;
+      executed = last.executed;
       part = last.said;
       unwritten = [];
       parts = append-nil last.said;

@@ -26,12 +26,12 @@ use Rattle.host_storage.specs.declared.host.HostFault.{HostFault}
 use Rattle.cbm_text.proofs.FileBytes.{file_small}
 use Rattle.cbm_text.proofs.NormalLines.{small_bytes}
 use Rattle.script_commands.specs.BasicFiles.{program_start}
-use Rattle.d64_undo.specs.declared.request.Answer.{Answer}
-use Rattle.d64_undo.specs.declared.request.Answer.TheVariants.{Accepted, Undone, Redone}
+use Rattle.d64_undo.specs.declared.request.RequestOutcome.{RequestOutcome}
+use Rattle.d64_undo.specs.declared.request.RequestOutcome.TheVariants.{Accepted, Undone, Redone}
 use Rattle.script_text.specs.RawLines.{text_of, is_too_long, is_skipped}
 use Rattle.script_text.specs.Words.{words_of_line}
 use Rattle.petscii.specs.Spelling.{spelling}
-use Rattle.script_commands.specs.Act.{printed_bytes, Act, Give, Refuse, Then, Call, Text, Fetch, Store, Crunch, Expand, Room, CallGives, bytes_given, Ending, Does, LineAnswer, World, ◌>>=◌, value_or_refusal, need, each_text, plain_answer}
+use Rattle.script_commands.specs.Act.{printed_bytes, Act, Give, Refuse, Then, Call, Text, Fetch, Store, Crunch, Expand, Room, CallGives, bytes_given, Ending, Does, LineResponse, World, ◌>>=◌, value_or_refusal, need, each_text, plain_response}
 use Rattle.host_storage.specs.Files.{HostState}
 use Rattle.script_commands.specs.Arguments.{host_in, block_argument, at_comma, can_be_id, name_and_kind_in, name_and_kind_of}
 use Rattle.script_commands.specs.WordCounts.{no_word, one_word, at_most_one, word_and, some_words}
@@ -102,7 +102,7 @@ id-made bytes (small, passes) =
 
 -- one request at most leads from one history to another, and it is one of these
 abbrev IsStepFrom : (Asked → Type 0) → History → History → Type 0
-IsStepFrom IsOne before after = (after ≡ before) ⊎ ((request : Asked) × (answer : Answer) × IsOne request × Step before request answer after)
+IsStepFrom IsOne before after = (after ≡ before) ⊎ ((request : Asked) × (outcome : RequestOutcome) × IsOne request × Step before request outcome after)
 
 -- each history that an act may leave is one step at most from that before it
 abbrev Leads : (Asked → Type 0) → History → Act Ending → Type 0
@@ -285,42 +285,42 @@ line-leads options history line =
     (λ more is request. inl (record { words = more; cut = cut ∙ ap Some is }))))
 
 -- if a call can be refused, what follows it leads
-given-leads : (IsOne : Asked → Type 0) (history : History) (call : Call) (next : List ℕ → Act Ending) (given : Result (List ℕ) Status) (host : HostState) (world : World) (answer : LineAnswer) (left : World)
+given-leads : (IsOne : Asked → Type 0) (history : History) (call : Call) (next : List ℕ → Act Ending) (given : Result (List ℕ) Status) (host : HostState) (world : World) (response : LineResponse) (left : World)
     → world.history ≡ history → CallGives call world.host given host
-    → ((bytes : List ℕ) → Known call bytes → Does (next bytes) (record { host = host; history = world.history }) answer left → IsStepFrom IsOne history left.history)
+    → ((bytes : List ℕ) → Known call bytes → Does (next bytes) (record { host = host; history = world.history }) response left → IsStepFrom IsOne history left.history)
     → MatchResult given
-    (λ bytes. Does (next bytes) (record { host = host; history = world.history }) answer left)
-    (λ status. (answer ≡ plain_answer status) × (left ≡ record { host = host; history = world.history }))
+    (λ bytes. Does (next bytes) (record { host = host; history = world.history }) response left)
+    (λ status. (response ≡ plain_response status) × (left ≡ record { host = host; history = world.history }))
     → IsStepFrom IsOne history left.history
-given-leads IsOne history call next (Ok bytes) host world answer left here gives each does = each bytes (given-known call world.host bytes host gives) does
-given-leads IsOne history call next (Err status) host world answer left here gives each does = inl (ap (λ (w : World). w.history) does.1 ∙ here)
+given-leads IsOne history call next (Ok bytes) host world response left here gives each does = each bytes (given-known call world.host bytes host gives) does
+given-leads IsOne history call next (Err status) host world response left here gives each does = inl (ap (λ (w : World). w.history) does.1 ∙ here)
 
 -- what is done leads if the act leads
-done-leads : (IsOne : Asked → Type 0) (history : History) (act : Act Ending) (world : World) (answer : LineAnswer) (left : World)
-    → world.history ≡ history → Leads IsOne history act → Does act world answer left → IsStepFrom IsOne history left.history
+done-leads : (IsOne : Asked → Type 0) (history : History) (act : Act Ending) (world : World) (response : LineResponse) (left : World)
+    → world.history ≡ history → Leads IsOne history act → Does act world response left → IsStepFrom IsOne history left.history
 unfolding Does
-done-leads IsOne history (Give ending) world answer left here leads does =
+done-leads IsOne history (Give ending) world response left here leads does =
     subst (IsStepFrom IsOne history) (sym (ap (λ (w : World). w.history) does.1)) leads
-done-leads IsOne history (Refuse status) world answer left here leads does = inl (ap (λ (w : World). w.history) does.1 ∙ here)
-done-leads IsOne history (Then call next) world answer left here leads (inl does) =
+done-leads IsOne history (Refuse status) world response left here leads does = inl (ap (λ (w : World). w.history) does.1 ∙ here)
+done-leads IsOne history (Then call next) world response left here leads (inl does) =
     let (given, host, gives, rest) = does in
-    given-leads IsOne history call next given host world answer left here gives
-    (λ bytes known. done-leads IsOne history (next bytes) (record { host = host; history = world.history }) answer left here (leads bytes known)) rest
-done-leads IsOne history (Then call next) world answer left here leads (inr does) = inl (ap (λ (w : World). w.history) does.1 ∙ here)
+    given-leads IsOne history call next given host world response left here gives
+    (λ bytes known. done-leads IsOne history (next bytes) (record { host = host; history = world.history }) response left here (leads bytes known)) rest
+done-leads IsOne history (Then call next) world response left here leads (inr does) = inl (ap (λ (w : World). w.history) does.1 ∙ here)
 
 -- a line of an open run
 asked-leads : (refusals : Refusals) (IsOne : Asked → Type 0) (history : History) (asked : Option (Act Ending)) (progress : RunProgress) (out : List ℕ) (left : RunProgress)
     → progress.world.history ≡ history → IfSome asked (Leads IsOne history)
     → MatchOption asked
     (IsSilent progress out left)
-    (λ act. (answer : LineAnswer) × (world : World)
-    × Does act progress.world answer world × (out ≡ printed_bytes answer) × (left ≡ counted_progress refusals progress answer world))
+    (λ act. (response : LineResponse) × (world : World)
+    × Does act progress.world response world × (out ≡ printed_bytes response) × (left ≡ counted_progress refusals progress response world))
     → IsStepFrom IsOne history left.world.history
 asked-leads refusals IsOne history None progress out left here leads silent = inl (ap (λ (p : RunProgress). p.world.history) silent.1 ∙ here)
 asked-leads refusals IsOne history (Some act) progress out left here leads done =
-    let (answer, world, does, prints, counts) = done in
+    let (response, world, does, prints, counts) = done in
     subst (IsStepFrom IsOne history) (sym (ap (λ (p : RunProgress). p.world.history) counts))
-    (done-leads IsOne history act progress.world answer world here leads does)
+    (done-leads IsOne history act progress.world response world here leads does)
 
 -- a line of a run
 one_line : (options : RunOptions) (line : List ℕ) (closed : Bool) (progress : RunProgress) (out : List ℕ) (left : RunProgress)
@@ -339,15 +339,15 @@ step_more : (IsOne : Asked → Type 0) (count all : ℕ) (before between left : 
     → IsReachedIn count between left → IsReachedIn all before left
 step_more IsOne count all before between left more (inl same) reached = record {
   requests = reached.requests;
-  answers = reached.answers;
+  outcomes = reached.outcomes;
   few = let few = reached.few in omega arith;
-  run = subst (λ (h : History). Run h reached.requests reached.answers left) same reached.run;
+  run = subst (λ (h : History). Run h reached.requests reached.outcomes left) same reached.run;
 }
 step_more IsOne count all before between left more (inr step) reached =
-    let (request, answer, is, one) = step in
+    let (request, outcome, is, one) = step in
     record {
       requests = request ∷ reached.requests;
-      answers = answer ∷ reached.answers;
+      outcomes = outcome ∷ reached.outcomes;
       few = let few = reached.few in omega arith;
       run = (between, (one, reached.run));
     }
@@ -357,7 +357,7 @@ pub scripts-are_runs : ScriptsAreRuns
 unfolding Transcript
 scripts-are_runs options [] progress out left silent = record {
   requests = [];
-  answers = [];
+  outcomes = [];
   few = omega arith;
   run = ap (λ (p : RunProgress). p.world.history) silent.1;
 }
@@ -371,8 +371,8 @@ scripts-are_runs options (line ∷ lines) progress out left reported =
 line-sound : (line : List ℕ) (before after : History) → ¬ (IsBlockWrite line) → IsStepFrom (AsksIn line) before after
     → HoldsSoundDisks before → HoldsSoundDisks after
 line-sound line before after other (inl same) holds = subst HoldsSoundDisks (sym same) holds
-line-sound line before after other (inr (request, answer, inl is, step)) holds = absurd (other is)
-line-sound line before after other (inr (request, answer, inr keeps, step)) holds = step-sound before request answer after step keeps holds
+line-sound line before after other (inr (request, outcome, inl is, step)) holds = absurd (other is)
+line-sound line before after other (inr (request, outcome, inr keeps, step)) holds = step-sound before request outcome after step keeps holds
 
 -- and so do lines without block writes
 pub scripts-keep_disks_sound : ScriptsKeepDisksSound

@@ -1,30 +1,30 @@
 -- Transcripts that go on line by line.
 use Rattle.std.proofs.Common.{◌≡◌, ℕ, ◌+◌, List, [], ◌∷◌, ◌++◌, Bool, true, false, Option, None, Some, refl, sym, ap, ◌∙◌, subst, append_assoc, append-nil, if◌then◌else◌, ◌||◌}
 use Rattle.std.specs.Prelude.{MatchBool, MatchOption}
-use Rattle.script_commands.specs.Act.{printed_bytes, Act, Ending, Does, LineAnswer, World}
-use Rattle.script_commands.specs.Line.{act_of_line, IsSkipped, IsAnswered}
+use Rattle.script_commands.specs.Act.{printed_bytes, Act, Ending, Does, LineResponse, World}
+use Rattle.script_commands.specs.Line.{act_of_line, IsSkipped, IsExecuted}
 use Rattle.script_text.specs.Status.{is_accepted}
 use Rattle.cmd_shell.specs.Transcript.{ends_script, RunOptions, RunProgress, Line, Transcript, IsSilent, counted_progress}
 
 -- a line that prints is one of the open run
-answered_by : (options : RunOptions) (asked : Option (Act Ending)) (progress : RunProgress) (answer : LineAnswer) (world : World)
-    → MatchOption asked ⊥ (λ act. Does act progress.world answer world)
-    → MatchOption asked (IsSilent progress (printed_bytes answer) (counted_progress options.refusals progress answer world))
-    (λ act. (said : LineAnswer) × (left : World)
-    × Does act progress.world said left × (printed_bytes answer ≡ printed_bytes said) × (counted_progress options.refusals progress answer world ≡ counted_progress options.refusals progress said left))
-answered_by options None progress answer world done = absurd done
-answered_by options (Some act) progress answer world done = (answer, world, done, refl, refl)
+executed_by : (options : RunOptions) (asked : Option (Act Ending)) (progress : RunProgress) (response : LineResponse) (world : World)
+    → MatchOption asked ⊥ (λ act. Does act progress.world response world)
+    → MatchOption asked (IsSilent progress (printed_bytes response) (counted_progress options.refusals progress response world))
+    (λ act. (said : LineResponse) × (left : World)
+    × Does act progress.world said left × (printed_bytes response ≡ printed_bytes said) × (counted_progress options.refusals progress response world ≡ counted_progress options.refusals progress said left))
+executed_by options None progress response world done = absurd done
+executed_by options (Some act) progress response world done = (response, world, done, refl, refl)
 
-pub Line-answered : (options : RunOptions) (line : List ℕ) (progress : RunProgress) (answer : LineAnswer) (world : World)
-    → IsAnswered options.home progress.world.history line progress.world answer world
-    → Line options line progress (printed_bytes answer) (counted_progress options.refusals progress answer world)
+pub Line-executed : (options : RunOptions) (line : List ℕ) (progress : RunProgress) (response : LineResponse) (world : World)
+    → IsExecuted options.home progress.world.history line progress.world response world
+    → Line options line progress (printed_bytes response) (counted_progress options.refusals progress response world)
 unfolding Line
-Line-answered options line progress answer world done = answered_by options (act_of_line options.home progress.world.history line) progress answer world done
+Line-executed options line progress response world done = executed_by options (act_of_line options.home progress.world.history line) progress response world done
 
 -- a line that is skipped is silent
 skipped_by : (options : RunOptions) (asked : Option (Act Ending)) (progress : RunProgress) → asked ≡ None
     → MatchOption asked (IsSilent progress [] progress)
-    (λ act. (said : LineAnswer) × (left : World)
+    (λ act. (said : LineResponse) × (left : World)
     × Does act progress.world said left × ([] ≡ printed_bytes said) × (progress ≡ counted_progress options.refusals progress said left))
 skipped_by options None progress none = (refl, refl)
 skipped_by options (Some act) progress none = cc
@@ -95,19 +95,19 @@ Transcript-closed options (line ∷ lines) more start out after reported ended =
     (said, rest, next, split, one, Transcript-closed options lines more next rest after others ended)
 
 -- the run after a line that has printed: one more line is counted
-pub Transcript-answered : (options : RunOptions) (lines : List (List ℕ)) (line : List ℕ) (start : RunProgress) (out : List ℕ) (world after : World)
-    (accepted refused accepted' refused' : ℕ) (closed' : Bool) (answer : LineAnswer)
+pub Transcript-executed : (options : RunOptions) (lines : List (List ℕ)) (line : List ℕ) (start : RunProgress) (out : List ℕ) (world after : World)
+    (accepted refused accepted' refused' : ℕ) (closed' : Bool) (response : LineResponse)
     → Transcript options lines start out (record { world = world; closed = false; accepted = accepted; refused = refused })
-    → IsAnswered options.home world.history line world answer after
-    → closed' ≡ (answer.closes || ends_script options.refusals answer.status)
-    → accepted' ≡ accepted + (if is_accepted answer.status then 1 else 0)
-    → refused' ≡ refused + (if is_accepted answer.status then 0 else 1)
-    → Transcript options (lines ++ line ∷ []) start (out ++ printed_bytes answer)
+    → IsExecuted options.home world.history line world response after
+    → closed' ≡ (response.closes || ends_script options.refusals response.status)
+    → accepted' ≡ accepted + (if is_accepted response.status then 1 else 0)
+    → refused' ≡ refused + (if is_accepted response.status then 0 else 1)
+    → Transcript options (lines ++ line ∷ []) start (out ++ printed_bytes response)
     (record { world = after; closed = closed'; accepted = accepted'; refused = refused' })
-Transcript-answered options lines line start out world after accepted refused accepted' refused' closed' answer reported done closes more_accepted more_refused =
+Transcript-executed options lines line start out world after accepted refused accepted' refused' closed' response reported done closes more_accepted more_refused =
     let middle : RunProgress = record { world = world; closed = false; accepted = accepted; refused = refused } in
     rw (closes, more_accepted, more_refused)
-    (Transcript-line options lines line start out (printed_bytes answer) middle (counted_progress options.refusals middle answer after) reported refl (Line-answered options line middle answer after done))
+    (Transcript-line options lines line start out (printed_bytes response) middle (counted_progress options.refusals middle response after) reported refl (Line-executed options line middle response after done))
 
 -- the run after a line that was skipped: nothing is printed
 pub Transcript-skipped : (options : RunOptions) (lines : List (List ℕ)) (line : List ℕ) (start : RunProgress) (out : List ℕ) (world after : World) (accepted refused : ℕ)

@@ -50,12 +50,12 @@ pub record StoppedAt (options : RunOptions) (old new : ScriptState) (lines : Lis
   pub middle : RunProgress
   pub reported : Transcript options before (first_progress old.world) out middle
   pub open_run : middle.closed ≡ false
-  pub answer : List ℕ
+  pub response : List ℕ
   pub after : RunProgress
-  pub answered : Line options line middle answer after
+  pub executed : Line options line middle response after
   pub part : List ℕ
   pub unwritten : List ℕ
-  pub parts : part ++ unwritten ≡ answer
+  pub parts : part ++ unwritten ≡ response
   pub written : Appends old.writer new.writer (out ++ part)
   pub world : new.world ≡ after.world
 

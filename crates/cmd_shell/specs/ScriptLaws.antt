@@ -3,7 +3,7 @@ use Rattle.std.specs.Prelude.{◌≡◌, ℕ, ◌≤◌, List, ◌∷◌, length
 use Rattle.d64_undo.specs.History.{History}
 use Rattle.d64_undo.specs.Request.{Asked, Run}
 use Rattle.d64_undo.specs.SoundHistory.{HoldsSoundDisks}
-use Rattle.d64_undo.specs.declared.request.Answer.{Answer}
+use Rattle.d64_undo.specs.declared.request.RequestOutcome.{RequestOutcome}
 use Rattle.script_text.specs.RawLines.{text_of}
 use Rattle.script_text.specs.Words.{words_of_line}
 use Rattle.cmd_shell.specs.Transcript.{RunOptions, RunProgress, Transcript}
@@ -11,9 +11,9 @@ use Rattle.cmd_shell.specs.Transcript.{RunOptions, RunProgress, Transcript}
 -- a run of at most n requests leads from one history to another
 pub record IsReachedIn (most : ℕ) (before after : History) : Type 0 where
   pub requests : List Asked
-  pub answers : List Answer
+  pub outcomes : List RequestOutcome
   pub few : length requests ≤ most
-  pub run : Run before requests answers after
+  pub run : Run before requests outcomes after
 
 -- a script changes the history as a run of requests does, with at most one request for each line
 abbrev pub ScriptsAreRuns : Type 0

@@ -1,6 +1,6 @@
 -- What a script prints and changes, line by line.
 use Rattle.std.specs.Prelude.{◌≡◌, ℕ, ◌+◌, List, [], ◌∷◌, ◌++◌, Bool, MatchBool, MatchOption, Option, Some, None, if◌then◌else◌, ◌||◌, false, not}
-use Rattle.script_commands.specs.Act.{Does, LineAnswer, World, printed_bytes}
+use Rattle.script_commands.specs.Act.{Does, LineResponse, World, printed_bytes}
 use Rattle.script_commands.specs.Line.{act_of_line}
 use Rattle.script_text.specs.Status.{is_accepted}
 use Rattle.script_text.specs.declared.status.Status.{Status}
@@ -36,12 +36,12 @@ pub record RunProgress : Type 0 where
   pub refused : ℕ
 
 -- the progress after a line with this response
-abbrev pub counted_progress : Refusals → RunProgress → LineAnswer → World → RunProgress
-counted_progress refusals progress answer world = record {
+abbrev pub counted_progress : Refusals → RunProgress → LineResponse → World → RunProgress
+counted_progress refusals progress response world = record {
   world = world;
-  closed = answer.closes || ends_script refusals answer.status;
-  accepted = progress.accepted + (if is_accepted answer.status then 1 else 0);
-  refused = progress.refused + (if is_accepted answer.status then 0 else 1);
+  closed = response.closes || ends_script refusals response.status;
+  accepted = progress.accepted + (if is_accepted response.status then 1 else 0);
+  refused = progress.refused + (if is_accepted response.status then 0 else 1);
 }
 
 -- nothing is printed and nothing changes
@@ -53,8 +53,8 @@ unfoldable pub Line : RunOptions → List ℕ → RunProgress → List ℕ → R
 Line options line progress out after =
     MatchOption (act_of_line options.home progress.world.history line)
     (IsSilent progress out after)
-    (λ act. (answer : LineAnswer) × (world : World)
-    × Does act progress.world answer world × (out ≡ printed_bytes answer) × (after ≡ counted_progress options.refusals progress answer world))
+    (λ act. (response : LineResponse) × (world : World)
+    × Does act progress.world response world × (out ≡ printed_bytes response) × (after ≡ counted_progress options.refusals progress response world))
 
 -- lines in turn, each with what it prints; after the run's end they print nothing
 unfoldable pub Transcript : RunOptions → List (List ℕ) → RunProgress → List ℕ → RunProgress → Type 0

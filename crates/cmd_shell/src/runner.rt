@@ -6,7 +6,7 @@ ghost use Rattle.host_storage.specs.Input.{IsUnread, reading_of, input_limit};
 ghost use Rattle.host_storage.specs.Output.{AppendsPart, FailsWith};
 ghost use Rattle.d64_undo.specs.History.{present_image};
 ghost use Rattle.script_commands.specs.Act.{printed_bytes, world_of};
-ghost use Rattle.script_commands.specs.Response.{shown_answer};
+ghost use Rattle.script_commands.specs.Response.{shown_response};
 ghost use Rattle.cmd_shell.specs.Runner.{EndsStreams, Ran, options_of, script_state};
 ghost use Rattle.cmd_shell.specs.Transcript.{going_on, home_of};
 ghost use Rattle.cmd_shell.specs.LineByLine.{EndsRun, HasRun, KeepsRun, RunsLine, StopsInLine, line_count_of, state_of};
@@ -14,7 +14,7 @@ ghost use Rattle.cmd_shell.specs.LineByLine.{EndsRun, HasRun, KeepsRun, RunsLine
 use crate::run_options::{RunOptions, ends_script, home_of};
 use d64_undo::Session;
 use host_storage::{Host, InputStream, OutputStream, WriteFault};
-use script_commands::{Nobody, Observer, Refusals, Response, answer_line};
+use script_commands::{Nobody, Observer, Refusals, Response, execute_line};
 use script_text::held_line::HeldLine;
 use script_text::part_handler::PartHandler;
 use script_text::parts::{CutShort, cut_text, read_parts};
@@ -244,7 +244,7 @@ fn deliver<W: Write>(output: &mut OutputStream<'_, W>) -> Result<(), WriteFault>
 
 /// Writes the response to a line that left this session, and calls the observer, after a delivery
 /// if the observer needs it.
-fn write_answer<L: Observer, W: Write>(
+fn write_response<L: Observer, W: Write>(
     observer: &mut L,
     home: Option<&str>,
     line: &HeldLine,
@@ -253,8 +253,8 @@ fn write_answer<L: Observer, W: Write>(
     session: &Session,
 ) -> Result<(), WriteFault>
     ensures same { output.new.writer.ghost_name ≡ output.old.writer.ghost_name }
-    ensures ok { OnOk result (Appends (W.contents output.old.writer.now) (W.contents output.new.writer.now) (printed_bytes (shown_answer (present_image session.now) response.now))) }
-    ensures err { OnErr result (AppendsPart (W.contents output.old.writer.now) (W.contents output.new.writer.now) (printed_bytes (shown_answer (present_image session.now) response.now))) }
+    ensures ok { OnOk result (Appends (W.contents output.old.writer.now) (W.contents output.new.writer.now) (printed_bytes (shown_response (present_image session.now) response.now))) }
+    ensures err { OnErr result (AppendsPart (W.contents output.old.writer.now) (W.contents output.new.writer.now) (printed_bytes (shown_response (present_image session.now) response.now))) }
     ensures failed { FailsWith result output.old.has_failed output.new.has_failed }
 {
     response.write(output, session.image())?;
@@ -323,13 +323,13 @@ impl<'n, 'l, 'o, 'w, 'h, 's, L: Observer, W: Write, H: Host> LineRunner<
             (λ _. StopsInLine (options_of self.old.options.now) raw (state_of W.contents H.state self.old) (state_of W.contents H.state self.new) self.old.tally) }
     {
         let home = self.options.home;
-        let Some(response) = answer_line(self.alloc, self.host, home, self.session, &self.line)
+        let Some(response) = execute_line(self.alloc, self.host, home, self.session, &self.line)
         else {
             self.observer.skip();
             return Ok(());
         };
         self.tally.count(&response, self.options.refusals);
-        write_answer(
+        write_response(
             self.observer,
             home,
             &self.line,

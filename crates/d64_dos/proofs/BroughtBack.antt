@@ -21,7 +21,7 @@ use Rattle.d64_files.specs.Slot.{is_used, first_pair, name_of}
 use Rattle.d64_files.specs.Writing.{written_at}
 use Rattle.d64_files.specs.declared.kind.Kind.{Kind}
 use Rattle.d64_files.specs.declared.kind.Kind.TheVariants.{Del, Seq, Prg, Usr, Rel}
-use Rattle.d64_files.proofs.FirstFaults.{sound_tells}
+use Rattle.d64_files.proofs.FirstFaults.{sound_decides}
 use Rattle.d64_effects.specs.Delete.{scratched_slots, scratched_disk}
 use Rattle.d64_effects.specs.Laws.{IsWritable}
 use Rattle.d64_effects.specs.Undelete.{cell_at, chain_left, undeleted_disk, CanComeBack}
@@ -212,7 +212,7 @@ module _ (image : List (List ℕ)) (patterns : List (List ℕ)) (name : List ℕ
       back_slot.1 ∙ ap Some (only_one back_slot.0 (chosen (scratched_disk image patterns) name back_slot.0 back_slot.1))
 
   no_fault : (disk : List (List ℕ)) → IsSound disk → None ≡ first_fault disk sound_conditions
-  no_fault disk holds = sym ((sound_tells disk).0.1 holds)
+  no_fault disk holds = sym ((sound_decides disk).0.1 holds)
 
   pub brought_back : BringsBack image (Delete patterns) (Undelete name kind)
   brought_back =

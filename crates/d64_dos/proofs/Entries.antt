@@ -10,13 +10,13 @@ use Rattle.d64_files.specs.Slot.{is_used}
 use Rattle.d64_files.proofs.SlotLists.{slot_block-within}
 use Rattle.d64_effects.proofs.TakenBlocks.{free_is_block}
 use Rattle.d64_effects.specs.Write.{grown_by, directory_grown, with_entry_in, with_new_entry}
-use Rattle.d64_dos.specs.Space.{IsPlace, StandsIn, grown_at}
+use Rattle.d64_dos.specs.Space.{IsPlace, HoldsSlot, grown_at}
 use Rattle.d64_dos.specs.declared.write.Place.{Place}
 use Rattle.d64_dos.specs.declared.write.Place.TheVariants.{Vacant, New}
 
 -- the blocks that the directory takes for one more entry, if this slot is the first unused one
 grown_for : (image : List (List ℕ)) (vacant : Option ℕ) (block index : ℕ) → first_unused (slots image) ≡ vacant
-    → MatchOption vacant ⊥ (StandsIn image block index) → directory_grown image ≡ []
+    → MatchOption vacant ⊥ (HoldsSlot image block index) → directory_grown image ≡ []
 grown_for image None block index e is = absurd is
 grown_for image (Some slot) block index e is = ap (grown_by (free_blocks image) (dir_last image)) e
 
@@ -28,7 +28,7 @@ directory_grown-is image (New last block) is =
 
 -- the new entry goes into the unused slot
 entered_vacant : (image : List (List ℕ)) (vacant : Option ℕ) (block index : ℕ) (entry : List ℕ) → first_unused (slots image) ≡ vacant
-    → MatchOption vacant ⊥ (StandsIn image block index) → with_new_entry image entry ≡ with_bytes image block (32 * index + 2) entry
+    → MatchOption vacant ⊥ (HoldsSlot image block index) → with_new_entry image entry ≡ with_bytes image block (32 * index + 2) entry
 unfolding with_new_entry with_entry
 entered_vacant image None block index entry e is = absurd is
 entered_vacant image (Some slot) block index entry e is =
@@ -64,7 +64,7 @@ new_of_place image place last block e at =
 
 -- and the block of an unused slot
 vacant_held : (image : List (List ℕ)) (vacant : Option ℕ) (block index : ℕ) → first_unused (slots image) ≡ vacant
-    → MatchOption vacant ⊥ (StandsIn image block index) → block < length image
+    → MatchOption vacant ⊥ (HoldsSlot image block index) → block < length image
 vacant_held image None block index e is = absurd is
 vacant_held image (Some slot) block index e is =
     subst (λ (b : ℕ). b < length image) (sym is.0) (slot_block-within image slot (position-Some (λ cell. not (is_used cell)) (slots image) slot [] e).0)

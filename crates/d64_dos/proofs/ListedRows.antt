@@ -38,22 +38,22 @@ pub rows-entries : (image : List (List ℕ)) → rows_of (entries image (slots i
 rows-entries image = rows_from image 0 (slots image)
 
 -- an entry among those that are numbered from another one on: its number, and its bytes
-record StandsAt (k : ℕ) (cells : List (List ℕ)) (entry : EntryView) : Type 0 where
+record LiesAt (k : ℕ) (cells : List (List ℕ)) (entry : EntryView) : Type 0 where
   index : ℕ
   number : entry.slot ≡ k + index
   bytes : slice_get cells index ≡ Some entry.bytes
 
 -- an entry that was found by a test of its bytes
 found_from : (test : List ℕ → Bool) (image : List (List ℕ)) (k : ℕ) (cells : List (List ℕ)) (entry : EntryView)
-    → Some entry ≡ find (λ (e : EntryView). test e.bytes) (entries_from image k cells) → StandsAt k cells entry
+    → Some entry ≡ find (λ (e : EntryView). test e.bytes) (entries_from image k cells) → LiesAt k cells entry
 found_from test image k [] entry e = absurd (cc)
 found_from test image k (cell ∷ cells) entry e = by_test (test cell) (found_from test image (k + 1) cells entry) e
   where
     rest : Option EntryView
     rest = find (λ (e : EntryView). test e.bytes) (entries_from image (k + 1) cells)
 
-    by_test : (passes : Bool) → (Some entry ≡ rest → StandsAt (k + 1) cells entry) → Some entry ≡ cond passes (Some (entry_of image (k, cell))) rest
-        → StandsAt k (cell ∷ cells) entry
+    by_test : (passes : Bool) → (Some entry ≡ rest → LiesAt (k + 1) cells entry) → Some entry ≡ cond passes (Some (entry_of image (k, cell))) rest
+        → LiesAt k (cell ∷ cells) entry
     by_test true later same =
         let is : entry ≡ entry_of image (k, cell) = cc in
         record { index = 0; number = let n = ap (λ (e : EntryView). e.slot) is in omega arith; bytes = ap (λ (e : EntryView). Some e.bytes) (sym is) }

@@ -25,7 +25,7 @@ use Rattle.d64_dos.specs.Restoring.{is_whole_by, is_left_by, entry_back}
 use Rattle.d64_dos.specs.Undelete.{is_scratched_as, chain_of, is_file_left, is_claimed, slot_to_undelete, undelete_refusal, disk_with_file_back, view_with_file_back}
 use Rattle.d64_dos.specs.WriteRefusal.{is_writable}
 use Rattle.d64_dos.specs.declared.refusal.Refusal.TheVariants.{NotFound, Exists, WrongType, Directory, Lost}
-use Rattle.d64_dos.proofs.SameWords.{left_tells, left_same, whole_same}
+use Rattle.d64_dos.proofs.SameWords.{left_decides, left_same, whole_same}
 
 -- the numbered slot of an entry
 abbrev pub slot_in : EntryView → ℕ × List ℕ
@@ -126,15 +126,15 @@ slot_to_undelete-is image name =
 left_by : (image : List (List ℕ)) (name : List ℕ) (test : ℕ × List ℕ → Bool) (slot : ℕ × List ℕ)
     → ((one : ℕ × List ℕ) → test one ≡ true → is_left_as image name one ≡ true)
     → find test (numbered_slots (slots image)) ≡ Some slot → IsLeft image name slot.0
-left_by image name test slot tells found =
+left_by image name test slot shows found =
     let at = found_at test 0 (slots image) slot found in
     let there : slot.0 < 0 + length (slots image) = at.there in
     let is : slot.1 ≡ cell_at image slot.0 = sym at.cell ∙ ap (λ (k : ℕ). get_or (slots image) k []) (let z : slot.0 - 0 ≡ slot.0 = omega arith in z) in
-    let told = and_parts (is_scratched_as name slot.1) (is_file_left image slot.1) (tells slot at.passes) in
+    let known = and_parts (is_scratched_as name slot.1) (is_file_left image slot.1) (shows slot at.passes) in
     record {
       there = omega arith;
-      scratched = ap (is_scratched_as name) (sym is) ∙ told.0;
-      left = ap (is_file_left image) (sym is) ∙ told.1;
+      scratched = ap (is_scratched_as name) (sym is) ∙ known.0;
+      left = ap (is_file_left image) (sym is) ∙ known.1;
     }
 
 -- the slot that is chosen
@@ -155,7 +155,7 @@ chosen image name slot h =
 pub can_come_back : (image : List (List ℕ)) (name : List ℕ) (slot : ℕ) → IsLeft image name slot → CanComeBack image slot
 can_come_back image name slot is =
     let cell : List ℕ = cell_at image slot in
-    let left = left_tells image cell is.left in
+    let left = left_decides image cell is.left in
     let scratched = (and_parts (is_scratched cell) _ is.scratched).0 in
     record {
       there = is.there;
@@ -238,16 +238,16 @@ entry_bytes image name entry h =
     by_found (find (λ (e : EntryView). is_whole_by image name (slot_in e)) (entries image (slots image))) (find (λ (e : EntryView). is_left_by image name (slot_in e)) (entries image (slots image)))
     refl refl h
   where
-    stands : (test : ℕ × List ℕ → Bool) (one : EntryView) → find (λ (e : EntryView). test (slot_in e)) (entries image (slots image)) ≡ Some one → one.bytes ≡ cell_at image one.slot
-    stands test one e =
+    lies : (test : ℕ × List ℕ → Bool) (one : EntryView) → find (λ (e : EntryView). test (slot_in e)) (entries image (slots image)) ≡ Some one → one.bytes ≡ cell_at image one.slot
+    lies test one e =
         let at = found_at test 0 (slots image) (slot_in one) (sym (found_slot test image (slots image)) ∙ ap (option_map slot_in) e) in
         sym at.cell ∙ ap (λ (k : ℕ). get_or (slots image) k []) (let z : one.slot - 0 ≡ one.slot = omega arith in z)
 
     by_found : (whole left : Option EntryView) → find (λ (e : EntryView). is_whole_by image name (slot_in e)) (entries image (slots image)) ≡ whole
         → find (λ (e : EntryView). is_left_by image name (slot_in e)) (entries image (slots image)) ≡ left → Some entry ≡ option_or whole left
         → entry.bytes ≡ cell_at image entry.slot
-    by_found (Some one) left e f h = let same : one ≡ entry = cc in stands (is_whole_by image name) entry (e ∙ ap Some same)
-    by_found None (Some one) e f h = let same : one ≡ entry = cc in stands (is_left_by image name) entry (f ∙ ap Some same)
+    by_found (Some one) left e f h = let same : one ≡ entry = cc in lies (is_whole_by image name) entry (e ∙ ap Some same)
+    by_found None (Some one) e f h = let same : one ≡ entry = cc in lies (is_left_by image name) entry (f ∙ ap Some same)
     by_found None None e f h = absurd (cc)
 
 pub restored_entry : (image : List (List ℕ)) (name : List ℕ) (entry : EntryView) (free : set.FinSet nat_cmp) → IsSound image → Some entry ≡ entry_back image image name
@@ -257,7 +257,7 @@ restored_entry image name entry free sound found without =
     let left = chosen image name entry.slot (sym (found_back image name (Some entry) sound found)) in (
       left.there,
       without ∙ ap (λ (cell : List ℕ). blocks_without (free_blocks image) (scratched_way image cell).0) (entry_bytes image name entry found)
-          ∙ ap (blocks_without (free_blocks image)) (sym (chain_is_way image (first_pair (cell_at image entry.slot)) (left_tells image (cell_at image entry.slot) left.left).some)),
+          ∙ ap (blocks_without (free_blocks image)) (sym (chain_is_way image (first_pair (cell_at image entry.slot)) (left_decides image (cell_at image entry.slot) left.left).some)),
     )
 
 -- the refusal on a sound disk, of a kind that can be written

@@ -31,7 +31,7 @@ use Rattle.d64_survey.specs.declared.way_end.WayEnd.TheVariants.{End}
 use Rattle.d64_survey.proofs.FaultOrder.{owned_among}
 use Rattle.d64_survey.proofs.Owning.{chain_is_way, owned_are, slots_are}
 use Rattle.d64_survey.proofs.Steps.{off, loops, fresh_step, ends, goes_on}
-use Rattle.d64_survey.proofs.Told.{bounded}
+use Rattle.d64_survey.proofs.Traced.{bounded}
 use Rattle.d64_dos.specs.Undelete.{chain_of, is_file_left, is_claimed}
 
 -- from each block of a chain there is one
@@ -169,8 +169,8 @@ count_blocks : (blocks : List ℕ) → blocks ≢ [] → nat_lt 0 (length blocks
 count_blocks [] some = absurd (some refl)
 count_blocks (block ∷ blocks) some = grind (arith, nat_tests)
 
-pub left_tells : (image : List (List ℕ)) (cell : List ℕ) → is_file_left image cell ≡ true → Left image cell
-left_tells image cell h =
+pub left_decides : (image : List (List ℕ)) (cell : List ℕ) → is_file_left image cell ≡ true → Left image cell
+left_decides image cell h =
     let blocks : List ℕ = chain_of image cell in
     let first = and_parts (nat_lt 0 (length blocks)) (list_all (set.contains (free_blocks image)) blocks && length blocks == size_of cell) h in
     let rest = and_parts (list_all (set.contains (free_blocks image)) blocks) (length blocks == size_of cell) first.1 in
@@ -238,7 +238,7 @@ left_same image slot cell sound =
       | inl t ↦
           ap not t
           ∙ sym (elim (cases_Bool (is_file_left image cell)) [
-            | inl l ↦ absurd (let e : true ≡ false = sym t ∙ not_lost image slot cell sound (left_tells image cell l) in cc)
+            | inl l ↦ absurd (let e : true ≡ false = sym t ∙ not_lost image slot cell sound (left_decides image cell l) in cc)
             | inr f ↦ f
           ])
       | inr f ↦
@@ -306,6 +306,6 @@ whole_same image slot cell sound =
           let left : is_file_left image cell ≡ true = sym same ∙ ap not f in
           only_claimed (not (is_whole walked.1)) (list_any (is_owned image) walked.0) (list_any (is_unowned image) walked.0) (is_scratched_missized cell walked)
           (list_any (is_claimed_below image slot) walked.0) (any_unreadable None walked.0) f (readable walked.0)
-          ∙ ap not (claims_same image slot cell sound (left_tells image cell left).some)
+          ∙ ap not (claims_same image slot cell sound (left_decides image cell left).some)
           ∙ sym (ap (λ (b : Bool). b && not (list_any (is_claimed image slot) (chain_of image cell))) left)
     ]

@@ -8,7 +8,7 @@ use Rattle.d64_map.specs.Map.{free_blocks}
 use Rattle.d64_map.specs.Plan.{room}
 use Rattle.d64_files.specs.Directory.{slots, is_name_taken, AllHold}
 use Rattle.d64_files.specs.FirstFault.{first_fault, owning_conditions, sound_conditions}
-use Rattle.d64_files.proofs.FirstFaults.{owning_tells, sound_tells}
+use Rattle.d64_files.proofs.FirstFaults.{owning_decides, sound_decides}
 use Rattle.d64_files.specs.Writing.{blocks_for, first_unused, dir_last}
 use Rattle.d64_files.specs.declared.dir_fault.DirFault.{DirFault}
 use Rattle.d64_files.specs.declared.kind.Kind.{Kind}
@@ -95,7 +95,7 @@ none_found (Some fault) h = absurd (cc)
 
 -- a validation that no refusal stops has a directory, files and chains in order
 owning_conditions-hold : (image : List (List ℕ)) → validate_refusal image ≡ None → AllHold image 2 5
-owning_conditions-hold image h = (owning_tells image).0.0 (none_found (first_fault image owning_conditions) h)
+owning_conditions-hold image h = (owning_decides image).0.0 (none_found (first_fault image owning_conditions) h)
 
 -- a formatted disk has as many blocks as before
 formatted_disk-shows : (image : List (List ℕ)) (name id : List ℕ) → IsImage image → IsName name → AreTwoBytes id
@@ -181,7 +181,7 @@ no_fault_after true fault more h = no_fault_before fault more h
 written_from_sound : (image : List (List ℕ)) (name : List ℕ) (kind : Kind) (bytes : ℕ) → write_refusal image name kind bytes ≡ None → IsSound image
 unfolding write_refusal
 written_from_sound image name kind bytes h =
-    (sound_tells image).0.0
+    (sound_decides image).0.0
     (no_fault_after (is_writable kind) (first_fault image sound_conditions)
     (cond (is_name_taken name (slots image)) (Some Exists) (cond (has_room image bytes) None (Some DiskFull))) h)
 
@@ -189,7 +189,7 @@ written_from_sound image name kind bytes h =
 renamed_from_sound : (image : List (List ℕ)) (old new : List ℕ) → rename_refusal image old new ≡ None → IsSound image
 unfolding rename_refusal
 renamed_from_sound image old new h =
-    (sound_tells image).0.0
+    (sound_decides image).0.0
     (no_fault_before (first_fault image sound_conditions)
     (cond (is_name_taken old (slots image)) (cond (is_name_taken new (slots image)) (Some Exists) None) (Some NotFound)) h)
 
@@ -198,8 +198,8 @@ starts_from_accepted : (image : List (List ℕ)) (change : Change) (known : Bool
     → refusal_of image change ≡ None → StartsFrom change image
 starts_from_accepted image (Format name id) known sure is none = tt
 starts_from_accepted image (Write name kind bytes) known sure is none = written_from_sound image name kind (length bytes) none
-starts_from_accepted image (Delete patterns) known sure is none = (sound_tells image).0.0 (none_found (first_fault image sound_conditions) none)
-starts_from_accepted image (Undelete name kind) known sure is none = (sound_tells image).0.0 (undeletable image name kind none).sound
+starts_from_accepted image (Delete patterns) known sure is none = (sound_decides image).0.0 (none_found (first_fault image sound_conditions) none)
+starts_from_accepted image (Undelete name kind) known sure is none = (sound_decides image).0.0 (undeletable image name kind none).sound
 starts_from_accepted image (Rename old new) known sure is none = renamed_from_sound image old new none
 starts_from_accepted image (Name name id) known sure is none = sure is
 starts_from_accepted image Validate known sure is none = tt
@@ -211,7 +211,7 @@ pub step_of : (image next : List (List ℕ)) (change : Change) (result : Result 
     → IfOk result (λ reply. reply ≡ reply_to image change) → OnOk result (next ≡ image_after image change)
     → IfOk result (λ reply. StartsFrom change image → Leaves image change reply next)
 step_of image next change (Err refusal) is made refused reply accepted = tt
-step_of image next change (Ok answer) is made refused reply accepted =
+step_of image next change (Ok outcome) is made refused reply accepted =
     λ from.
     subst (λ (r : Reply). Leaves image change r next) (sym reply)
     (subst (Leaves image change (reply_to image change)) (sym accepted) (keeps_sound image change is made (sym refused) from))
@@ -222,8 +222,8 @@ pub sound_of : (image next : List (List ℕ)) (change : Change) (known : Bool) (
     → IfOk result (λ reply. reply ≡ reply_to image change) → OnOk result (next ≡ image_after image change)
     → OnOk result (LeavesSound change known → IsSound next)
 sound_of image next change known (Err refusal) sure is made refused reply accepted = tt
-sound_of image next change known (Ok answer) sure is made refused reply accepted =
-    λ leaves. (step_of image next change (Ok answer) is made refused reply accepted (starts_from_accepted image change known sure leaves (sym refused))).sound
+sound_of image next change known (Ok outcome) sure is made refused reply accepted =
+    λ leaves. (step_of image next change (Ok outcome) is made refused reply accepted (starts_from_accepted image change known sure leaves (sym refused))).sound
 
 -- an empty patch puts nothing back
 pub nothing_back : (image : List (List ℕ)) (patch : Kept) → patch ≡ [] → restored_image image patch ≡ image

@@ -12,13 +12,13 @@ use Rattle.d64_dos.specs.declared.write.Place.TheVariants.{Vacant, New}
 use Rattle.d64_dos.specs.declared.write.Space.{Space}
 
 -- a slot is in a block of the directory, and is this one of its eight
-abbrev pub StandsIn : Disk → ℕ → ℕ → ℕ → Type 0
-StandsIn image block index slot = (block ≡ slot_block image slot) × (index ≡ slot % 8)
+abbrev pub HoldsSlot : Disk → ℕ → ℕ → ℕ → Type 0
+HoldsSlot image block index slot = (block ≡ slot_block image slot) × (index ≡ slot % 8)
 
 -- the place of a new entry: the first unused slot, or if all are used the first slot of the block
 -- that the directory takes after its last one
 abbrev pub IsPlace : Disk → BlockSet → Place → Type 0
-IsPlace image free (Vacant block index) = MatchOption (first_unused (slots image)) ⊥ (StandsIn image block index)
+IsPlace image free (Vacant block index) = MatchOption (first_unused (slots image)) ⊥ (HoldsSlot image block index)
 IsPlace image free (New last block) =
     (first_unused (slots image) ≡ None) × (last ≡ dir_last image) × (next_of_directory free (dir_last image) ≡ Some block)
 

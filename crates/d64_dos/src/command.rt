@@ -166,14 +166,14 @@ pub fn apply_knowing(
     ensures step { IfOk result (λ reply. StartsFrom (change_of command.now) image.old → Leaves image.old (change_of command.now) reply image.new) }
     ensures sound { OnOk result (LeavesSound (change_of command.now) is_sound → IsSound image.new) }
 {
-    let answer = carried_out(image, patch, command, is_sound);
-    if answer.is_ok() {
+    let outcome = carried_out(image, patch, command, is_sound);
+    if outcome.is_ok() {
         patch.trim(image);
     } else {
         patch.swap(image);
         patch.clear();
     }
-    answer
+    outcome
 }
 
 /// Does nothing: its contract states what the parts of a command are.

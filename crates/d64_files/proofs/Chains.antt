@@ -280,8 +280,8 @@ all_within image start blocks h k d inside =
     within image start blocks h (get_or blocks k d) (list_any_at (eqb (get_or blocks k d)) blocks k d inside (eq-eqb (get_or blocks k d) (get_or blocks k d) refl))
 
 -- an element of a list is at some place of it
-stands : (q : ℕ) (others : List ℕ) → list_any (eqb q) others ≡ true → Contains others q
-stands q others found =
+lies : (q : ℕ) (others : List ℕ) → list_any (eqb q) others ≡ true → Contains others q
+lies q others found =
     let p = Any-from_list_any (eqb q) others found in
     let same : q ≡ p.1 = eqb-true q p.1 p.4 in
     (p.0, p.2, subst (λ (b : ℕ). get_or others p.0 b ≡ b) (sym same) p.3)
@@ -289,7 +289,7 @@ stands q others found =
 -- a chain needs only the links of its blocks, by their places
 pub kept_by_blocks : (image other : List (List ℕ)) (start : ℕ) (blocks : List ℕ) → Chain image start blocks → length other ≡ length image
     → LinkedAlike image other blocks → Chain other start blocks
-kept_by_blocks image other start blocks h long alike = kept image other start blocks h long (λ q found. alike q (stands q blocks found))
+kept_by_blocks image other start blocks h long alike = kept image other start blocks h long (λ q found. alike q (lies q blocks found))
 
 -- a walk that says whether it found the chain says whether there is one
 pub exists : (image : List (List ℕ)) (start : ℕ) (found : Bool) (blocks : List ℕ) → (found ≡ true → Chain image start blocks)

@@ -13,7 +13,7 @@ use Rattle.d64_files.specs.declared.dir_fault.DirFault.{DirFault}
 use Rattle.d64_files.specs.declared.dir_fault.DirFault.TheVariants.{NoChain}
 use Rattle.d64_files.specs.declared.reading.ReadFault.{ReadFault}
 use Rattle.d64_files.specs.declared.reading.ReadFault.TheVariants.{Directory, NotFound, NotClosed, WrongType}
-use Rattle.d64_files.proofs.FirstFaults.{not_nil, reading_tells}
+use Rattle.d64_files.proofs.FirstFaults.{not_nil, reading_decides}
 use Rattle.d64_files.proofs.Owners.{entries_from}
 
 -- the entry of a number, among those that are numbered from another one on
@@ -71,11 +71,11 @@ no_bytes image slot walk e found =
 
 -- a directory that meets the conditions 2 and 3 can be read
 pub readable : (image : List (List ℕ)) → AllHold image 2 3 → first_fault image reading_conditions ≡ None
-readable image h = (reading_tells image).0.1 h
+readable image h = (reading_decides image).0.1 h
 
 -- one that fails one of them can't, for the first that it fails
 pub first_reason : (image : List (List ℕ)) (fault : DirFault) → IsFirstFault image 2 3 fault → first_fault image reading_conditions ≡ Some fault
-first_reason image fault f = ((reading_tells image).1 fault).1 f
+first_reason image fault f = ((reading_decides image).1 fault).1 f
 
 -- such a directory refuses each slot
 pub refused_directory : (image : List (List ℕ)) (slot : ℕ) (fault : DirFault) → IsFirstFault image 2 3 fault → Some (Directory fault) ≡ content_refusal image slot

@@ -70,9 +70,9 @@ called (byte ∷ field) (letter ∷ name) within allowed =
     ]
 
 -- so the test of the field of an entry says whether its name is this one
-pub name_tells : (field name text bytes : List ℕ) (ends : Bool) → bytes ≡ field → length bytes ≡ 16 → text ≡ name → IsName name → ends ≡ ends_at bytes (length text)
+pub name_decides : (field name text bytes : List ℕ) (ends : Bool) → bytes ≡ field → length bytes ≡ 16 → text ≡ name → IsName name → ends ≡ ends_at bytes (length text)
     → (ends && bytes_eq (take (length text) bytes) text) ≡ bytes_eq (name_in field) name
-name_tells field name text bytes ends value long same named is =
+name_decides field name text bytes ends value long same named is =
     let short = named.short in
     ap (λ (b : Bool). b && bytes_eq (take (length text) bytes) text) is
     ∙ ap (λ (xs : List ℕ). ends_at bytes (length xs) && bytes_eq (take (length xs) bytes) xs) same

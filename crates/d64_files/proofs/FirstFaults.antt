@@ -14,7 +14,7 @@ use Rattle.d64_map.specs.Map.{CountsFit, free_blocks, count_of}
 use Rattle.d64_map.specs.Track.{members_on}
 use Rattle.d64_files.specs.Directory.{directory, slots, owned_blocks, condition_number, Holds, AllHold, IsFirstFault}
 use Rattle.d64_files.specs.FirstFault.{is_nil, fails, err_of, first_fault, reading_conditions, owning_conditions, sound_conditions}
-use Rattle.d64_files.specs.FirstFaultLaws.{TellsFirst}
+use Rattle.d64_files.specs.FirstFaultLaws.{ReportsFirst}
 use Rattle.d64_files.specs.Ownership.{chain_at, roots, HasItsChains}
 use Rattle.d64_files.specs.Slot.{HasKind, has_kind, kind_number}
 use Rattle.d64_files.specs.declared.dir_fault.DirFault.{DirFault}
@@ -232,9 +232,9 @@ pub sound_first : (image : List (List ℕ)) (fault : DirFault) → IsFirstFault 
 sound_first image fault f = one_verdict image 1 6 (Some fault) (first_fault image sound_conditions) f (sound_verdict image)
 
 -- what the tests find is what the relations say
-tells : (conditions : List DirFault) (first last : ℕ)
-    → ((image : List (List ℕ)) → Verdict image first last (first_fault image conditions)) → TellsFirst conditions first last
-tells conditions first last verdict image =
+shows : (conditions : List DirFault) (first last : ℕ)
+    → ((image : List (List ℕ)) → Verdict image first last (first_fault image conditions)) → ReportsFirst conditions first last
+shows conditions first last verdict image =
     let found = first_fault image conditions in (
       (λ none. MatchOption-at_none (AllHold image first last) (IsFirstFault image first last) none (verdict image), λ all. one_verdict image first last found None (verdict image) all),
       λ fault. (
@@ -244,12 +244,12 @@ tells conditions first last verdict image =
     )
 
 -- of the conditions of a sound image
-pub sound_tells : TellsFirst sound_conditions 1 6
-sound_tells = tells sound_conditions 1 6 sound_verdict
+pub sound_decides : ReportsFirst sound_conditions 1 6
+sound_decides = shows sound_conditions 1 6 sound_verdict
 
 -- of those of the owned blocks
-pub owning_tells : TellsFirst owning_conditions 2 5
-owning_tells = tells owning_conditions 2 5 owning_verdict
+pub owning_decides : ReportsFirst owning_conditions 2 5
+owning_decides = shows owning_conditions 2 5 owning_verdict
 
 -- the conditions of a directory that can be read
 reading_verdict : (image : List (List ℕ)) → Verdict image 2 3 (first_fault image reading_conditions)
@@ -262,5 +262,5 @@ reading_verdict image =
     (λ kinds. both_hold image (met image NoDirectory exists) (met image UnknownKind kinds)))
 
 -- of those
-pub reading_tells : TellsFirst reading_conditions 2 3
-reading_tells = tells reading_conditions 2 3 reading_verdict
+pub reading_decides : ReportsFirst reading_conditions 2 3
+reading_decides = shows reading_conditions 2 3 reading_verdict

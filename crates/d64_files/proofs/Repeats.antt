@@ -39,10 +39,10 @@ pub one_claimed : (before : List ℕ) (block : ℕ) (old : Claims) (again crosse
     → old ≡ claims_of before → again ≡ set.contains old.blocks block → crossed ≡ (old.crossed || again) → blocks ≡ set.insert old.blocks block
     → made blocks crossed ≡ claims_of (before ++ block ∷ [])
 unfolding claims_of
-one_claimed before block old again crossed blocks is told is_crossed is_blocks =
+one_claimed before block old again crossed blocks is known is_crossed is_blocks =
     let b : blocks ≡ set.from_list (before ++ block ∷ []) =
     is_blocks ∙ ap (λ (c : Claims). set.insert c.blocks block) is ∙ sym (from_list_push nat_cmp_total nat_cmp-IsAntisymmetric before block) in
-    let a : again ≡ list_any (λ (c : ℕ). eqb c block) before = told ∙ ap (λ (c : Claims). set.contains c.blocks block) is ∙ contains-from_list_nat before block in
+    let a : again ≡ list_any (λ (c : ℕ). eqb c block) before = known ∙ ap (λ (c : Claims). set.contains c.blocks block) is ∙ contains-from_list_nat before block in
     let x : crossed ≡ has_repeats (before ++ block ∷ []) =
     is_crossed ∙ ap₂ ◌||◌ (ap (λ (c : Claims). c.crossed) is) a ∙ sym (has_repeats-push before block) in
     ap₂ made b x

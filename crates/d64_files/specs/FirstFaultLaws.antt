@@ -7,8 +7,8 @@ use Rattle.d64_files.specs.declared.dir_fault.DirFault.{DirFault}
 
 -- the tests of conditions with these numbers find no fault exactly if all hold, and otherwise find
 -- the first that fails
-abbrev pub TellsFirst : List DirFault → ℕ → ℕ → Type 0
-TellsFirst conditions first last =
+abbrev pub ReportsFirst : List DirFault → ℕ → ℕ → Type 0
+ReportsFirst conditions first last =
     (image : Disk)
     → ((first_fault image conditions ≡ None) ↔ AllHold image first last)
     × ((fault : DirFault) → (first_fault image conditions ≡ Some fault) ↔ IsFirstFault image first last fault)

@@ -88,9 +88,9 @@ some_length dump bytes is kept = by_map (image_bytes (length bytes)) (d64_dump-b
     by_map (Some count) e = refl
 
 -- no D64 has a length that is refused
-pub no_part : {A : Type 0} → (told : Option ℕ) (part : Option A) (n m : ℕ) → told ≡ Some n → told ≡ (if is_some part then None else Some m) → part ≡ None
-no_part told None n m is refused = refl
-no_part told (Some part) n m is refused = cc
+pub no_part : {A : Type 0} → (known : Option ℕ) (part : Option A) (n m : ℕ) → known ≡ Some n → known ≡ (if is_some part then None else Some m) → part ≡ None
+no_part known None n m is refused = refl
+no_part known (Some part) n m is refused = cc
 
 -- bytes of a length that is not refused are a D64
 pub a_part : (bytes : List ℕ) (n : ℕ) → None ≡ (if is_some (image_bytes (length bytes)) then None else Some n) → is_some (dump_of bytes) ≡ true

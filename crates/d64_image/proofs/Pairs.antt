@@ -137,13 +137,13 @@ pair_at-in_zone zone block some one starts lies =
     sym (ap pair_at (sym counted) ∙ pair_at-counted track sector (omega arith) lies.within (subst (λ (n : ℕ). sector < n) lies.sectors held))
 
 -- a pair that passes the test is that pair
-is_pair-tells : (t s a b : ℕ) → is_pair t s (a, b) ≡ true → (a ≡ t) × (b ≡ s)
-is_pair-tells t s a b h = grind (arith, nat_tests)
+is_pair-shows : (t s a b : ℕ) → is_pair t s (a, b) ≡ true → (a ≡ t) × (b ≡ s)
+is_pair-shows t s a b h = grind (arith, nat_tests)
 
 -- a pair that has a block is at that block
 pub block_of-some : (t s block : ℕ) → block_of t s ≡ Some block → (block < 768) × (pair_at block ≡ (t, s))
 unfolding block_of
 block_of-some t s block e =
     let found = position-Some (is_pair t s) pairs block (0, 0) e in
-    let here = is_pair-tells t s (get_or pairs block (0, 0)).0 (get_or pairs block (0, 0)).1 found.1 in
+    let here = is_pair-shows t s (get_or pairs block (0, 0)).0 (get_or pairs block (0, 0)).1 found.1 in
     (subst (λ (n : ℕ). block < n) length-pairs found.0, sym (at_pairs block) ∙ ap₂ (λ (a b : ℕ). (a, b)) here.0 here.1)

@@ -175,9 +175,9 @@ same_marked xs ys long far e = sym (words_of-marked_blocks xs long) ∙ ap words
 pub Decides-same_words : (xs ys : List ℕ) (s t : blocks.FinSet nat_cmp) → AreWords xs → AreWords ys → marked_blocks xs ≡ s → marked_blocks ys ≡ t
     → (r : Bool) → r ≡ pointwise nat_eq xs ys → Decides r (s ≡ t)
 Decides-same_words xs ys s t long far e f r is =
-    let told = pointwise_decides unsigned_Decides xs ys in (
-      λ h. sym e ∙ ap marked_blocks (told.0 (sym is ∙ h)) ∙ f,
-      λ h. is ∙ told.1 (same_marked xs ys long far (e ∙ h ∙ sym f)),
+    let known = pointwise_decides unsigned_Decides xs ys in (
+      λ h. sym e ∙ ap marked_blocks (known.0 (sym is ∙ h)) ∙ f,
+      λ h. is ∙ known.1 (same_marked xs ys long far (e ∙ h ∙ sym f)),
     )
 
 -- the same comparison says whether they have the same members

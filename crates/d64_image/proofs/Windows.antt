@@ -71,9 +71,9 @@ bit_of_two words place bit are few =
     ]
 
 -- the 32 bits from that of a block on say which blocks are members
-pub bits_tell : (words : List ℕ) (first bit : ℕ) → AreWords words → bit < 32
+pub bits_decide : (words : List ℕ) (first bit : ℕ) → AreWords words → bit < 32
     → bit_at (two_words words (first / 32) / 2 ^ (first % 32) % 2 ^ 32) bit ≡ cond (set.contains (marked_blocks words) (first + bit)) 1 0
-bits_tell words first bit are few =
+bits_decide words first bit are few =
     let same : 32 * (first / 32) + (first % 32 + bit) ≡ first + bit = omega arith in
     let word : ℕ = get_or words ((first + bit) / 32) 0 in
     bit_at-mod (two_words words (first / 32) / 2 ^ (first % 32)) 32 bit few

@@ -29,8 +29,8 @@ abbrev pub EachSizeHasItsTracks : Type 0
 EachSizeHasItsTracks = (count : ℕ) → IsSize count → first_block (tracks_of count + 1) ≡ count
 
 -- the list of differences has exactly the blocks in which two images differ
-abbrev pub DifferencesTell : Type 0
-DifferencesTell =
+abbrev pub DifferencesDecide : Type 0
+DifferencesDecide =
     (image other : Disk) (block : ℕ) → Contains (differences image other) block ↔ ((block < length image) × (sector_at image block ≢ sector_at other block))
 
 -- images of the same length that differ in no block are equal
@@ -42,8 +42,8 @@ abbrev pub AlikeSetsAreEqual : Type 0
 AlikeSetsAreEqual = (blocks others : BlockSet) → ((block : ℕ) → set.contains blocks block ≡ set.contains others block) → blocks ≡ others
 
 -- the comparison of two sets says whether they are equal
-abbrev pub SameMembersTells : Type 0
-SameMembersTells = (blocks others : BlockSet) → IsTrue (same_members blocks others) ↔ (blocks ≡ others)
+abbrev pub SameMembersDecides : Type 0
+SameMembersDecides = (blocks others : BlockSet) → IsTrue (same_members blocks others) ↔ (blocks ≡ others)
 
 -- putting back a patch that keeps no block changes nothing
 abbrev pub EmptyPatchPutsNothingBack : Type 0

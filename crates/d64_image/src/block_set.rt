@@ -161,7 +161,7 @@ impl PartialEq for BlockSet {
 
     /// Whether two sets have the same members.
     fn eq(&self, other: &BlockSet) -> bool
-        ensures answer { result ≡ same_members self.now other.now }
+        ensures compared { result ≡ same_members self.now other.now }
         ensures same { IsTrue result ↔ (self.now ≡ other.now) }
     {
         self.words == other.words

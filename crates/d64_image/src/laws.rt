@@ -6,7 +6,7 @@ ghost use Rattle.std.specs.Prelude.{◌≡◌, length};
 ghost use Rattle.d64_image.specs.Block.{pairs};
 ghost use Rattle.d64_image.specs.Laws.{EachBlockHasItsPair, EachLegalPairHasItsBlock, OnlyLegalPairsHaveBlocks, EachSizeHasItsTracks};
 ghost use Rattle.d64_image.specs.Laws.{EmptyPatchPutsNothingBack, ChangesPutBack, ChangesCount};
-ghost use Rattle.d64_image.specs.Laws.{DifferencesTell, AlikeImagesAreEqual, AlikeSetsAreEqual, SameMembersTells};
+ghost use Rattle.d64_image.specs.Laws.{DifferencesDecide, AlikeImagesAreEqual, AlikeSetsAreEqual, SameMembersDecides};
 ghost use Rattle.d64_image.specs.declared.block.TheConstants.{BLOCKS};
 
 /// Each block has one legal pair of track and sector and each pair one block, and an image has the
@@ -20,15 +20,15 @@ pub fn blocks_stand_for_pairs()
 {}
 
 /// The list of differences has exactly the blocks in which two images differ.
-pub fn differences_tell()
-    ensures members { DifferencesTell }
+pub fn differences_decide()
+    ensures members { DifferencesDecide }
     ensures none { AlikeImagesAreEqual }
 {}
 
 /// Two sets with the same members are equal, and `==` says whether they are.
 pub fn alike_sets_are_equal()
     ensures members { AlikeSetsAreEqual }
-    ensures test { SameMembersTells }
+    ensures test { SameMembersDecides }
 {}
 
 /// Putting back all blocks that changed gives the image from before, and putting back an empty

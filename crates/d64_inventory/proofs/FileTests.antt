@@ -35,8 +35,8 @@ one_more before old new blocks k block d e members within is q =
 -- one more block may pass a test
 pub flag_more : (f : ℕ → Bool) (blocks : List ℕ) (k block d : ℕ) (before old new : Bool) → k < length blocks → block ≡ get_or blocks k d
     → old ≡ (before || list_any f (take k blocks)) → new ≡ (old || f block) → new ≡ (before || list_any f (take (k + 1) blocks))
-flag_more f blocks k block d before old new within is told e =
-    e ∙ ap₂ ◌||◌ told (ap f is) ∙ joined before (list_any f (take k blocks)) (f (get_or blocks k d)) ∙ sym (ap (λ (t : Bool). before || t) (list_any_more f blocks k d within))
+flag_more f blocks k block d before old new within is known e =
+    e ∙ ap₂ ◌||◌ known (ap f is) ∙ joined before (list_any f (take k blocks)) (f (get_or blocks k d)) ∙ sym (ap (λ (t : Bool). before || t) (list_any_more f blocks k d within))
   where
     joined : (a b c : Bool) → ((a || b) || c) ≡ (a || (b || c))
     joined true b c = refl

@@ -8,9 +8,9 @@ use Rattle.std.proofs.lemmas.Grind.{get_or-set_at}
 use Rattle.d64_survey.specs.Way.{way, way_on, block_at}
 use Rattle.d64_survey.specs.declared.way_end.WayEnd.TheVariants.{Off}
 use Rattle.d64_survey.proofs.Steps.{off}
-use Rattle.d64_survey.proofs.Told.{same_way}
+use Rattle.d64_survey.proofs.Traced.{same_way}
 use Rattle.d64_inventory.specs.Contents.{digested_along}
-use Rattle.d64_inventory.specs.ContentTables.{kept_content, TellsContents}
+use Rattle.d64_inventory.specs.ContentTables.{kept_content, RecordsContents}
 use Rattle.d64_inventory.specs.declared.row.Content.{Content}
 
 -- what is kept is the length and the digest of the content along the way from a pair
@@ -30,18 +30,18 @@ kept_none n (Some block) = elim (cases_lt block n) [
 ]
 
 -- so what is kept there holds
-pub none_kept : (n : ℕ) (image : List (List ℕ)) → TellsContents image (replicate n None)
+pub none_kept : (n : ℕ) (image : List (List ℕ)) → RecordsContents image (replicate n None)
 none_kept n image = λ pair. held (so image pair) (kept_content (replicate n None) (block_at image pair)) None (kept_none n (block_at image pair)) tt
 
 -- the length and the digest of the content along a way are right
-told_is : (image : List (List ℕ)) (pair : ℕ × ℕ) (content : Option Content) → content ≡ digested_along image (way image pair) → IfSome content (so image pair)
-told_is image pair None is = tt
-told_is image pair (Some content) is = is
+known_is : (image : List (List ℕ)) (pair : ℕ × ℕ) (content : Option Content) → content ≡ digested_along image (way image pair) → IfSome content (so image pair)
+known_is image pair None is = tt
+known_is image pair (Some content) is = is
 
 -- the length and the digest of one more content are kept
 pub one_kept : (image : List (List ℕ)) (contents : List (Option Content)) (pair : ℕ × ℕ) (block : ℕ) (content : Option Content)
-    → block_at image pair ≡ Some block → content ≡ digested_along image (way image pair) → TellsContents image contents → TellsContents image (slice_set contents block content)
-one_kept image contents pair block content found is tells = λ other. by_block other (block_at image other) refl
+    → block_at image pair ≡ Some block → content ≡ digested_along image (way image pair) → RecordsContents image contents → RecordsContents image (slice_set contents block content)
+one_kept image contents pair block content found is shows = λ other. by_block other (block_at image other) refl
   where
     by_block : (other : ℕ × ℕ) (b : Option ℕ) → block_at image other ≡ b → IfSome (kept_content (slice_set contents block content) (block_at image other)) (so image other)
     by_block other None e = held (so image other) (kept_content (slice_set contents block content) (block_at image other)) None (ap (kept_content (slice_set contents block content)) e) tt
@@ -52,7 +52,7 @@ one_kept image contents pair block content found is tells = λ other. by_block o
             | inl inside ↦
                 let here = ap (kept_content (slice_set contents block content)) e ∙ get_or-set_at contents block b content None same inside in
                 held (so image other) (kept_content (slice_set contents block content) (block_at image other)) content here
-                (told_is image other content (is ∙ ap (digested_along image) (same_way image pair other block found (e ∙ ap (λ (n : ℕ). Some n) same))))
+                (known_is image other content (is ∙ ap (digested_along image) (same_way image pair other block found (e ∙ ap (λ (n : ℕ). Some n) same))))
             | inr past ↦
                 let long : length (slice_set contents block content) ≤ b = omega (arith, length-set contents block content) in
                 let here = ap (kept_content (slice_set contents block content)) e ∙ get_or_past (slice_set contents block content) b None long in
@@ -61,15 +61,15 @@ one_kept image contents pair block content found is tells = λ other. by_block o
       | inr f ↦
           let other_block : b ≢ block = eqb-false b block f in
           let here = ap (kept_content (slice_set contents block content)) e ∙ get_or-set_other contents block b content None other_block ∙ sym (ap (kept_content contents) e) in
-          held (so image other) (kept_content (slice_set contents block content) (block_at image other)) (kept_content contents (block_at image other)) here (tells other)
+          held (so image other) (kept_content (slice_set contents block content) (block_at image other)) (kept_content contents (block_at image other)) here (shows other)
     ]
 
 -- what is kept for the block of a pair belongs to the content along the way
-pub kept_at : (image : List (List ℕ)) (contents : List (Option Content)) (pair : ℕ × ℕ) (block n : ℕ) (content : Content) → TellsContents image contents
+pub kept_at : (image : List (List ℕ)) (contents : List (Option Content)) (pair : ℕ × ℕ) (block n : ℕ) (content : Content) → RecordsContents image contents
     → block_at image pair ≡ Some block → n ≡ block → slice_index_or contents n None ≡ Some content → Some content ≡ digested_along image (way image pair)
-kept_at image contents pair block n content tells found same is =
+kept_at image contents pair block n content shows found same is =
     let there : kept_content contents (block_at image pair) ≡ Some content = ap (kept_content contents) found ∙ ap (λ (k : ℕ). slice_index_or contents k None) (sym same) ∙ is in
-    held (so image pair) (Some content) (kept_content contents (block_at image pair)) (sym there) (tells pair)
+    held (so image pair) (Some content) (kept_content contents (block_at image pair)) (sym there) (shows pair)
 
 -- a way from a pair of which the image has no block
 no_block : (image : List (List ℕ)) (pair : ℕ × ℕ) → block_at image pair ≡ None → way image pair ≡ ([], Off pair.0 pair.1)

@@ -17,7 +17,7 @@ use Rattle.d64_files.specs.declared.reading.ReadFault.TheVariants.{Directory, No
 use Rattle.d64_survey.specs.Way.{way, is_whole}
 use Rattle.d64_survey.specs.declared.way_end.WayEnd.{WayEnd}
 use Rattle.d64_survey.specs.declared.way_end.WayEnd.TheVariants.{End, Off, Loop}
-use Rattle.d64_survey.proofs.Told.{bounded}
+use Rattle.d64_survey.proofs.Traced.{bounded}
 use Rattle.d64_inventory.specs.Contents.{content_along}
 use Rattle.d64_inventory.specs.ContentLaws.{ContentIsWhatIsRead}
 

@@ -8,7 +8,7 @@ use Rattle.d64_files.specs.Slot.{cell}
 use Rattle.d64_files.proofs.SlotLists.{length-slots_in, slot_at_place}
 use Rattle.d64_survey.specs.Owners.{directory_way, way_slots}
 use Rattle.d64_survey.specs.Inspection.{slot_cell}
-use Rattle.d64_survey.proofs.Told.{bounded}
+use Rattle.d64_survey.proofs.Traced.{bounded}
 use Rattle.d64_survey.proofs.Trails.{lies}
 
 -- it is in one of the blocks

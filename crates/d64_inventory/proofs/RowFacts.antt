@@ -10,7 +10,7 @@ use Rattle.d64_inventory.specs.Conditions.{conditions}
 use Rattle.d64_inventory.specs.Rows.{FileRowView, known_kind, record_length_by, way_length, error_count, file_row_of}
 
 -- what a row has is right
-pub record AreTold (dump : DumpView) (numbered : ℕ × List ℕ) (row : FileRowView) : Type 0 where
+pub record AreListed (dump : DumpView) (numbered : ℕ × List ℕ) (row : FileRowView) : Type 0 where
   pub slot : row.slot ≡ numbered.0
   pub field : row.field ≡ field_of numbered.1
   pub kind : row.kind ≡ known_kind numbered.1
@@ -29,7 +29,7 @@ pub record AreTold (dump : DumpView) (numbered : ℕ × List ℕ) (row : FileRow
   pub read_errors : row.read_errors ≡ error_count dump numbered.1
 
 -- so it is the row
-pub row_is : (dump : DumpView) (numbered : ℕ × List ℕ) (row : FileRowView) → AreTold dump numbered row → row ≡ file_row_of dump numbered
+pub row_is : (dump : DumpView) (numbered : ℕ × List ℕ) (row : FileRowView) → AreListed dump numbered row → row ≡ file_row_of dump numbered
 unfolding file_row_of
 row_is dump numbered row t = λ i. record {
   slot = t.slot i;

@@ -11,6 +11,6 @@ abbrev pub kept_content : List (Option Content) → Option ℕ → Option Conten
 kept_content contents block = option_map_or (λ block. slice_index_or contents block None) block None
 
 -- what is kept for the first block of a way is the length and the digest of the content along it
-abbrev pub TellsContents : Disk → List (Option Content) → Type 0
-TellsContents image contents =
+abbrev pub RecordsContents : Disk → List (Option Content) → Type 0
+RecordsContents image contents =
     (pair : ℕ × ℕ) → IfSome (kept_content contents (block_at image pair)) (λ content. Some content ≡ digested_along image (way image pair))

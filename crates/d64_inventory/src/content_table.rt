@@ -5,7 +5,7 @@ ghost use Rattle.d64_files.specs.Chain.{LieIn};
 ghost use Rattle.d64_files.specs.FileData.{data_along};
 ghost use Rattle.d64_survey.specs.Way.{way};
 ghost use Rattle.d64_inventory.specs.Contents.{content_of, digested_content, digested_along};
-ghost use Rattle.d64_inventory.specs.ContentTables.{TellsContents};
+ghost use Rattle.d64_inventory.specs.ContentTables.{RecordsContents};
 
 use crate::row::Content;
 use d64_files::{BlockList, Entry, block_in, data_of};
@@ -56,7 +56,7 @@ fn digest_from(image: &Image, track: u8, sector: u8) -> Option<Content>
 impl ContentTable {
     /// The empty table.
     pub(crate) fn empty(image: &Image) -> ContentTable
-        ensures { TellsContents image.now result.contents }
+        ensures { RecordsContents image.now result.contents }
     {
         ContentTable {
             contents: [None; BLOCKS],
@@ -66,9 +66,9 @@ impl ContentTable {
     /// The length and the digest of the content of a slot's file, or None if it has no content. It
     /// is computed only if it isn't kept for the file's first block.
     pub(crate) fn content(&mut self, image: &Image, entry: &Entry) -> Option<Content>
-        requires { TellsContents image.now self.old.contents }
+        requires { RecordsContents image.now self.old.contents }
         ensures content { result ≡ option_map digested_content (content_of image.now entry.now.bytes) }
-        ensures kept { TellsContents image.now self.new.contents }
+        ensures kept { RecordsContents image.now self.new.contents }
     {
         match data_pair(entry) {
             Some((track, sector)) => self.content_from(image, track, sector),
@@ -78,9 +78,9 @@ impl ContentTable {
 
     /// The length and the digest of the content along the way from a track and a sector.
     pub(crate) fn content_from(&mut self, image: &Image, track: u8, sector: u8) -> Option<Content>
-        requires { TellsContents image.now self.old.contents }
+        requires { RecordsContents image.now self.old.contents }
         ensures content { result ≡ digested_along image.now (way image.now (track, sector)) }
-        ensures kept { TellsContents image.now self.new.contents }
+        ensures kept { RecordsContents image.now self.new.contents }
     {
         match block_in(image, track, sector) {
             Some(block) => match self.contents[block.index()] {

@@ -40,14 +40,14 @@ impl<'a> Model for Inventory<'a> {
     ghost use Rattle.std.specs.Prelude.{◌≡◌};
     ghost use Rattle.d64_map.specs.Map.{free_blocks};
     ghost use Rattle.d64_survey.specs.Dump.{DumpView};
-    ghost use Rattle.d64_inventory.specs.ContentTables.{TellsContents};
+    ghost use Rattle.d64_inventory.specs.ContentTables.{RecordsContents};
 
     ghost Value = { DumpView };
 
     ghost view = { λ inventory. inventory.inspection.now };
 
     ghost invariant = { λ inventory. (inventory.free ≡ free_blocks inventory.inspection.now.image)
-        × TellsContents inventory.inspection.now.image inventory.contents.contents };
+        × RecordsContents inventory.inspection.now.image inventory.contents.contents };
 }
 
 /// The kind of the file of a slot, or None if the low four bits of its type byte are the number of

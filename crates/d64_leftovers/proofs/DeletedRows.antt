@@ -10,7 +10,7 @@ use Rattle.d64_inventory.specs.Contents.{digested_along}
 use Rattle.d64_leftovers.specs.Deleted.{DeletedRowView, unreadable_count, deleted_row}
 
 -- the fields of a row are those of the deleted file of a numbered slot
-pub record AreTold (dump : DumpView) (numbered : ℕ × List ℕ) (row : DeletedRowView) : Type 0 where
+pub record AreListed (dump : DumpView) (numbered : ℕ × List ℕ) (row : DeletedRowView) : Type 0 where
   pub slot : row.slot ≡ numbered.0
   pub field : row.field ≡ field_of numbered.1
   pub size : row.size ≡ size_of numbered.1
@@ -22,7 +22,7 @@ pub record AreTold (dump : DumpView) (numbered : ℕ × List ℕ) (row : Deleted
   pub read_errors : row.read_errors ≡ unreadable_count dump.codes (way dump.image (first_pair numbered.1)).0
 
 -- so it is the row
-pub row_is : (dump : DumpView) (numbered : ℕ × List ℕ) (row : DeletedRowView) → AreTold dump numbered row → row ≡ deleted_row dump numbered
+pub row_is : (dump : DumpView) (numbered : ℕ × List ℕ) (row : DeletedRowView) → AreListed dump numbered row → row ≡ deleted_row dump numbered
 unfolding deleted_row
 row_is dump numbered row t = λ i. record {
   slot = t.slot i;

@@ -39,10 +39,10 @@ contains-free_blocks-past image block h =
     ∙ ap (λ (b : Bool). b && is_free image block) (let e : ltb block (length image) ≡ false = grind (arith, nat_tests) in e)
 
 -- the bit of a block's track and sector says whether the block is free
-pub bit_tells : (image : List (List ℕ)) (block track sector : ℕ) (bytes : List ℕ) → bytes ≡ sector_at image map_block
+pub bit_decides : (image : List (List ℕ)) (block track sector : ℕ) (bytes : List ℕ) → bytes ≡ sector_at image map_block
     → track ≡ (pair_at block).0 → sector ≡ (pair_at block).1 → nat_eq (bit_in bytes track sector) 1 ≡ is_free image block
 unfolding is_free
-bit_tells image block track sector bytes e f g =
+bit_decides image block track sector bytes e f g =
     ap (λ (x : List ℕ). nat_eq (bit_in x track sector) 1) e
     ∙ ap (λ (t : ℕ). nat_eq (bit_in (sector_at image map_block) t sector) 1) f
     ∙ ap (λ (s : ℕ). nat_eq (bit_in (sector_at image map_block) (pair_at block).0 s) 1) g
@@ -53,5 +53,5 @@ pub bit_is_member : (image : List (List ℕ)) (track sector : ℕ) (bytes : List
     → nat_eq (bit_in bytes track sector) 1 ≡ set.contains (free_blocks image) (first_block track + sector)
 bit_is_member image track sector bytes e one last held there =
     let pair = pair_at-counted track sector one last held in
-    bit_tells image (first_block track + sector) track sector bytes e (sym (ap (λ (p : ℕ × ℕ). p.0) pair)) (sym (ap (λ (p : ℕ × ℕ). p.1) pair))
+    bit_decides image (first_block track + sector) track sector bytes e (sym (ap (λ (p : ℕ × ℕ). p.0) pair)) (sym (ap (λ (p : ℕ × ℕ). p.1) pair))
     ∙ sym (contains-free_blocks image (first_block track + sector) there)

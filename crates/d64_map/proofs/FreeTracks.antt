@@ -32,7 +32,7 @@ one_track : (image : List (List ℕ)) (track bits block : ℕ) → 1 ≤ track
     → ((s : ℕ) → s < sectors_on track → nat_eq (bit_at bits s) 1 ≡ is_free image (first_block track + s))
     → ((ltb block (first_block track) && is_free image block) || is_given (first_block track) (bits % 2 ^ sectors_on track) block)
     ≡ (ltb block (first_block (track + 1)) && is_free image block)
-one_track image track bits block one tell =
+one_track image track bits block one show =
     let first : ℕ = first_block track in
     let count : ℕ = sectors_on track in
     let next = first_block-next track one in
@@ -57,7 +57,7 @@ one_track image track bits block one tell =
                 let below : block < first_block (track + 1) = omega arith in
                 let v : ltb block (first_block (track + 1)) ≡ true = grind (arith, nat_tests) in
                 ap (λ (n : ℕ). nat_eq n 1) (bit_at-mod bits (sectors_on track) (block - first_block track) held)
-                ∙ tell (block - first_block track) held
+                ∙ show (block - first_block track) held
                 ∙ ap (is_free image) same
                 ∙ ap (λ (b : Bool). b && is_free image block) (sym v)
             | inr past ↦
@@ -99,10 +99,10 @@ pub track_added : (image : List (List ℕ)) (track bits : ℕ) (old new : set.Fi
     → ((block : ℕ) → set.contains new block ≡ (set.contains old block || is_given (first_block track) (bits % 2 ^ sectors_on track) block))
     → ((s : ℕ) → s < sectors_on track → nat_eq (bit_at bits s) 1 ≡ is_free image (first_block track + s))
     → new ≡ free_below image (first_block (track + 1))
-track_added image track bits old new one before added tell =
+track_added image track bits old new one before added show =
     same_set nat_cmp_total nat_cmp-IsAntisymmetric _ _ (λ block.
     added block
     ∙ ap (λ (s : set.FinSet nat_cmp). set.contains s block || is_given (first_block track) (bits % 2 ^ sectors_on track) block) before
     ∙ ap (λ (b : Bool). b || is_given (first_block track) (bits % 2 ^ sectors_on track) block) (contains-free_below image (first_block track) block)
-    ∙ one_track image track bits block one tell
+    ∙ one_track image track bits block one show
     ∙ sym (contains-free_below image (first_block (track + 1)) block))

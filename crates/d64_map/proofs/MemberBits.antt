@@ -20,12 +20,12 @@ use Rattle.d64_map.proofs.Sectors.{has_sector-legal}
 pub members_read : (blocks : set.FinSet nat_cmp) (track first count bits : ℕ) → 1 ≤ track → track < 41 → count ≡ sectors_on track → first ≡ first_block track → count < 32
     → ((bit : ℕ) → bit < 32 → bit_at bits bit ≡ cond (set.contains blocks (first + bit)) 1 0)
     → bits % 2 ^ count ≡ sum_by (value_of (has_sector blocks track)) (range_with_len 0 count)
-members_read blocks track first count bits one last sectors place few tell =
+members_read blocks track first count bits one last sectors place few show =
     let p : ℕ → Bool = has_sector blocks track in
     same_from_bits_below count _ _ (mod-lt bits (pow_pos count)) (sum_below p count) (λ s h.
     let held : s < sectors_on track = omega (arith, h, sectors) in
     bit_at-mod bits count s h
-    ∙ tell s (omega arith)
+    ∙ show s (omega arith)
     ∙ ap (λ (k : ℕ). as_bit (set.contains blocks (k + s))) place
     ∙ ap as_bit (sym (has_sector-legal blocks track s one last held))
     ∙ sym (bit_at-sum p count s h))

@@ -26,7 +26,7 @@ use Rattle.d64_merge.proofs.Counts.{count_none, none_counted, find_all, find_non
 use Rattle.d64_merge.proofs.Agreements.{both_true}
 use Rattle.d64_merge.proofs.Orders.{is_number, none_passes, passes_nowhere, outcome_by}
 use Rattle.d64_merge.proofs.OrderedBlocks.{bytes_in, not_none, below}
-use Rattle.d64_merge.proofs.MergedOrders.{made_tells, outcome_is, apart_is, tells_same, tells_taken, tells_majority, never}
+use Rattle.d64_merge.proofs.MergedOrders.{made_shows, outcome_is, apart_is, shows_same, shows_taken, shows_majority, never}
 
 -- ---- the block of a merged dump
 
@@ -53,8 +53,8 @@ first_in block dumps p each some = go (find p dumps) refl
     go : (first : Option DumpView) → find p dumps ≡ first → IsIn dumps block (bytes_in block first)
     go None is = let wrong : true ≡ false = sym some ∙ none_passes p dumps (find_none p dumps is) in absurd (cc)
     go (Some dump) is =
-        let told = find_all p (λ x. Contains dumps x × (p x ≡ true → has_block block x ≡ true)) dumps (λ k d h. (All-contains_itself dumps k d h, each k d h)) dump is in
-        (dump, told.0.0, told.0.1 told.1, refl)
+        let known = find_all p (λ x. Contains dumps x × (p x ≡ true → has_block block x ≡ true)) dumps (λ k d h. (All-contains_itself dumps k d h, each k d h)) dump is in
+        (dump, known.0.0, known.0.1 known.1, refl)
 
 placed_in : (block : ℕ) (dumps : List DumpView) (p : DumpView → Bool) → All (λ x. p x ≡ true → has_block block x ≡ true) dumps → list_any p dumps ≡ true
     → IsIn dumps block (bytes_in block (dump_at dumps (position p dumps)))
@@ -147,15 +147,15 @@ any_there block dumps some are within = go (list_any (has_block block) dumps) re
     go true is = is
     go false is = absurd (lacks_none block dumps some are (passes_nowhere (has_block block) dumps is) (list_any has_40_tracks dumps) refl within)
 
-tells_first : (preference : Preference) (none equal all winner : Bool) → outcome_by preference none equal all winner ≡ First → none ≡ false
-tells_first preference true equal all winner is = absurd (cc)
-tells_first preference false equal all winner is = refl
+shows_first : (preference : Preference) (none equal all winner : Bool) → outcome_by preference none equal all winner ≡ First → none ≡ false
+shows_first preference true equal all winner is = absurd (cc)
+shows_first preference false equal all winner is = refl
 
-tells_lost : (preference : Preference) (none equal all winner : Bool) → outcome_by preference none equal all winner ≡ Lost → none ≡ true
-tells_lost preference true equal all winner is = refl
-tells_lost preference false true true winner is = absurd (cc)
-tells_lost preference false true false winner is = absurd (cc)
-tells_lost preference false false all winner is = absurd (apart_is Lost refl refl refl (preference.majority && winner) preference.first is)
+shows_lost : (preference : Preference) (none equal all winner : Bool) → outcome_by preference none equal all winner ≡ Lost → none ≡ true
+shows_lost preference true equal all winner is = refl
+shows_lost preference false true true winner is = absurd (cc)
+shows_lost preference false true false winner is = absurd (cc)
+shows_lost preference false false all winner is = absurd (apart_is Lost refl refl refl (preference.majority && winner) preference.first is)
 
 module _ (preference : Preference) (dumps : List DumpView) (block : ℕ) where
   counts : (became : BlockOutcome) → outcome preference block dumps ≡ became
@@ -183,22 +183,22 @@ module _ (preference : Preference) (dumps : List DumpView) (block : ℕ) where
   in_by : dumps ≢ [] → All IsDump dumps → block < merged_block_count dumps → (became : BlockOutcome) → outcome preference block dumps ≡ became → is_outcome Conflict became ≡ false
       → IsIn dumps block (bytes_in block (dump_at dumps (source became block dumps)))
   unfolding source
-  in_by some are within Same is h = good_placed (tells_same preference (good_count block dumps == 0) (are_equal block dumps) (good_count block dumps == length dumps) (list_any (wins block dumps) dumps) (counts Same is)).0
-  in_by some are within Taken is h = good_placed (tells_taken preference (good_count block dumps == 0) (are_equal block dumps) (good_count block dumps == length dumps) (list_any (wins block dumps) dumps) (counts Taken is)).0
-  in_by some are within First is h = good_placed (tells_first preference (good_count block dumps == 0) (are_equal block dumps) (good_count block dumps == length dumps) (list_any (wins block dumps) dumps) (counts First is))
+  in_by some are within Same is h = good_placed (shows_same preference (good_count block dumps == 0) (are_equal block dumps) (good_count block dumps == length dumps) (list_any (wins block dumps) dumps) (counts Same is)).0
+  in_by some are within Taken is h = good_placed (shows_taken preference (good_count block dumps == 0) (are_equal block dumps) (good_count block dumps == length dumps) (list_any (wins block dumps) dumps) (counts Taken is)).0
+  in_by some are within First is h = good_placed (shows_first preference (good_count block dumps == 0) (are_equal block dumps) (good_count block dumps == length dumps) (list_any (wins block dumps) dumps) (counts First is))
   in_by some are within Lost is h = lost_placed some are within
   in_by some are within Conflict is h = absurd (cc)
   in_by some are within Majority is h =
       placed_in block dumps (wins block dumps) (λ k d h w. good_is_there block _ (wins_good block dumps _ w))
-      (tells_majority preference (good_count block dumps == 0) (are_equal block dumps) (good_count block dumps == length dumps) (list_any (wins block dumps) dumps) (counts Majority is))
+      (shows_majority preference (good_count block dumps == 0) (are_equal block dumps) (good_count block dumps == length dumps) (list_any (wins block dumps) dumps) (counts Majority is))
 
 -- no block of a merged dump is in conflict
 no_conflict : (preference : Preference) (plain : Bool) (dumps : List DumpView) (made : DumpView) → merged preference plain dumps ≡ Some made
     → (outcome_count Conflict (choices preference dumps) ≡ 0) × (dump_by (keeps_codes plain dumps) dumps (choices preference dumps) ≡ made)
 unfolding dump_of_choices
 no_conflict preference plain dumps made is =
-    let told = made_tells (outcome_count Conflict (choices preference dumps) == 0) (dump_by (keeps_codes plain dumps) dumps (choices preference dumps)) made is in
-    (is_number _ _ told.0, told.1)
+    let known = made_shows (outcome_count Conflict (choices preference dumps) == 0) (dump_by (keeps_codes plain dumps) dumps (choices preference dumps)) made is in
+    (is_number _ _ known.0, known.1)
 
 pub became_of : (preference : Preference) (dumps : List DumpView) (block : ℕ) → (choice preference dumps block).outcome ≡ outcome preference block dumps
 unfolding choice
@@ -216,13 +216,13 @@ never_here preference dumps block none within =
 pub blocks_law : EachBlockIsADumps
 unfolding dump_by
 blocks_law preference plain dumps made block some are is within =
-    let told = no_conflict preference plain dumps made is in
-    let image : merged_image dumps (choices preference dumps) ≡ made.image = ap (λ (d : DumpView). d.image) told.1 in
+    let known = no_conflict preference plain dumps made is in
+    let image : merged_image dumps (choices preference dumps) ≡ made.image = ap (λ (d : DumpView). d.image) known.1 in
     let size = image_size preference dumps in
     let same : length (merged_image dumps (choices preference dumps)) ≡ length made.image = ap length image in
     let inside : block < merged_block_count dumps = omega (arith, size, same, within) in
     subst (IsIn dumps block) (sym (sector_is preference dumps block inside) ∙ ap (λ (i : List (List ℕ)). sector_at i block) image)
-    (in_by preference dumps block some are inside (outcome preference block dumps) refl (never_here preference dumps block told.0 inside))
+    (in_by preference dumps block some are inside (outcome preference block dumps) refl (never_here preference dumps block known.0 inside))
 
 -- ---- its read codes
 
@@ -239,7 +239,7 @@ no_error_in block dumps p each = ap (λ (d : Option DumpView). is_read_error (co
   where
     go : (first : Option DumpView) → find p dumps ≡ first → is_read_error (code_in block first) ≡ false
     go None is = refl
-    go (Some dump) is = let told = find_all p (λ x. p x ≡ true → is_good block x ≡ true) dumps each dump is in good_has_no_error block dump (told.0 told.1)
+    go (Some dump) is = let known = find_all p (λ x. p x ≡ true → is_good block x ≡ true) dumps each dump is in good_has_no_error block dump (known.0 known.1)
 
 -- if there are as many good copies as dumps, each copy is good
 all_counted : (p : DumpView → Bool) (dumps : List DumpView) → count_by p dumps ≡ length dumps → All (λ x. true ≡ true → p x ≡ true) dumps
@@ -256,14 +256,14 @@ module _ (preference : Preference) (dumps : List DumpView) (block : ℕ) where
   lost_by : (became : BlockOutcome) → outcome preference block dumps ≡ became → is_read_error (merged_code became block dumps) ≡ true → All (λ x. is_good block x ≡ false) dumps
   unfolding code_source source
   lost_by Lost is h =
-      none_counted (is_good block) dumps (is_number _ _ (tells_lost preference none_good (are_equal block dumps) (good_count block dumps == length dumps) (list_any (wins block dumps) dumps) (counts preference dumps block Lost is)))
+      none_counted (is_good block) dumps (is_number _ _ (shows_lost preference none_good (are_equal block dumps) (good_count block dumps == length dumps) (list_any (wins block dumps) dumps) (counts preference dumps block Lost is)))
   lost_by Conflict is h = absurd (cc)
   lost_by Taken is h = let wrong : true ≡ false = sym h ∙ no_error_in block dumps (is_good block) (λ k d i g. g) in absurd (cc)
   lost_by First is h = let wrong : true ≡ false = sym h ∙ no_error_in block dumps (is_good block) (λ k d i g. g) in absurd (cc)
   lost_by Majority is h = let wrong : true ≡ false = sym h ∙ no_error_in block dumps (wins block dumps) (λ k d i w. wins_good block dumps _ w) in absurd (cc)
   lost_by Same is h =
-      let told = tells_same preference none_good (are_equal block dumps) (good_count block dumps == length dumps) (list_any (wins block dumps) dumps) (counts preference dumps block Same is) in
-      let all = all_counted (is_good block) dumps (is_number _ _ told.2) in
+      let known = shows_same preference none_good (are_equal block dumps) (good_count block dumps == length dumps) (list_any (wins block dumps) dumps) (counts preference dumps block Same is) in
+      let all = all_counted (is_good block) dumps (is_number _ _ known.2) in
       let wrong : true ≡ false = sym h ∙ no_error_in block dumps has_codes (λ k d i g. all k d i refl) in
       absurd (cc)
 
@@ -283,9 +283,9 @@ lost_where_error preference dumps block true within h =
 pub errors_law : ErrorsOnlyWhereAllAreLost
 unfolding dump_by
 errors_law preference plain dumps made block is within h =
-    let told = no_conflict preference plain dumps made is in
-    let image : merged_image dumps (choices preference dumps) ≡ made.image = ap (λ (d : DumpView). d.image) told.1 in
+    let known = no_conflict preference plain dumps made is in
+    let image : merged_image dumps (choices preference dumps) ≡ made.image = ap (λ (d : DumpView). d.image) known.1 in
     let size = image_size preference dumps in
     let same : length (merged_image dumps (choices preference dumps)) ≡ length made.image = ap length image in
     let inside : block < merged_block_count dumps = omega (arith, size, same, within) in
-    lost_where_error preference dumps block (keeps_codes plain dumps) inside (ap (λ (d : DumpView). is_read_error (code_of d.codes block)) told.1 ∙ h)
+    lost_where_error preference dumps block (keeps_codes plain dumps) inside (ap (λ (d : DumpView). is_read_error (code_of d.codes block)) known.1 ∙ h)

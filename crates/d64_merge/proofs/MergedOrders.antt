@@ -29,17 +29,17 @@ apart_is other a b c false true is = let wrong : true ≡ false = ap (is_outcome
 apart_is other a b c false false is = let wrong : true ≡ false = ap (is_outcome Conflict) is ∙ c in cc
 
 -- what an outcome says of the counts of copies
-pub tells_same : (preference : Preference) (none equal all winner : Bool) → outcome_by preference none equal all winner ≡ Same → (none ≡ false) × (equal ≡ true) × (all ≡ true)
-tells_same preference true equal all winner is = absurd (cc)
-tells_same preference false true true winner is = (refl, refl, refl)
-tells_same preference false true false winner is = absurd (cc)
-tells_same preference false false all winner is = absurd (apart_is Same refl refl refl (preference.majority && winner) preference.first is)
+pub shows_same : (preference : Preference) (none equal all winner : Bool) → outcome_by preference none equal all winner ≡ Same → (none ≡ false) × (equal ≡ true) × (all ≡ true)
+shows_same preference true equal all winner is = absurd (cc)
+shows_same preference false true true winner is = (refl, refl, refl)
+shows_same preference false true false winner is = absurd (cc)
+shows_same preference false false all winner is = absurd (apart_is Same refl refl refl (preference.majority && winner) preference.first is)
 
-pub tells_taken : (preference : Preference) (none equal all winner : Bool) → outcome_by preference none equal all winner ≡ Taken → (none ≡ false) × (equal ≡ true)
-tells_taken preference true equal all winner is = absurd (cc)
-tells_taken preference false true true winner is = absurd (cc)
-tells_taken preference false true false winner is = (refl, refl)
-tells_taken preference false false all winner is = absurd (apart_is Taken refl refl refl (preference.majority && winner) preference.first is)
+pub shows_taken : (preference : Preference) (none equal all winner : Bool) → outcome_by preference none equal all winner ≡ Taken → (none ≡ false) × (equal ≡ true)
+shows_taken preference true equal all winner is = absurd (cc)
+shows_taken preference false true true winner is = absurd (cc)
+shows_taken preference false true false winner is = (refl, refl)
+shows_taken preference false false all winner is = absurd (apart_is Taken refl refl refl (preference.majority && winner) preference.first is)
 
 winner_of : (m winner f : Bool) → (if m && winner then Majority else (if f then First else Conflict)) ≡ Majority → winner ≡ true
 winner_of true true f is = refl
@@ -48,11 +48,11 @@ winner_of true false false is = absurd (cc)
 winner_of false winner true is = absurd (cc)
 winner_of false winner false is = absurd (cc)
 
-pub tells_majority : (preference : Preference) (none equal all winner : Bool) → outcome_by preference none equal all winner ≡ Majority → winner ≡ true
-tells_majority preference true equal all winner is = absurd (cc)
-tells_majority preference false true true winner is = absurd (cc)
-tells_majority preference false true false winner is = absurd (cc)
-tells_majority preference false false all winner is = winner_of preference.majority winner preference.first is
+pub shows_majority : (preference : Preference) (none equal all winner : Bool) → outcome_by preference none equal all winner ≡ Majority → winner ≡ true
+shows_majority preference true equal all winner is = absurd (cc)
+shows_majority preference false true true winner is = absurd (cc)
+shows_majority preference false true false winner is = absurd (cc)
+shows_majority preference false false all winner is = winner_of preference.majority winner preference.first is
 
 -- the outcome, by the counts of copies
 pub outcome_is : (preference : Preference) (block : ℕ) (dumps : List DumpView)
@@ -65,18 +65,18 @@ module _ (preference : Preference) (dumps others : List DumpView) (perm : IsPerm
       → bytes_in block (dump_at others (source became block others)) ≡ bytes_in block (dump_at dumps (source became block dumps))
   unfolding source
   bytes_by block Same is a b =
-      let told = tells_same preference (good_count block dumps == 0) (are_equal block dumps) (good_count block dumps == length dumps) (list_any (wins block dumps) dumps) (sym (outcome_is preference block dumps) ∙ is) in
-      good_bytes block dumps others perm told.1 (not_none _ told.0)
+      let known = shows_same preference (good_count block dumps == 0) (are_equal block dumps) (good_count block dumps == length dumps) (list_any (wins block dumps) dumps) (sym (outcome_is preference block dumps) ∙ is) in
+      good_bytes block dumps others perm known.1 (not_none _ known.0)
   bytes_by block Taken is a b =
-      let told = tells_taken preference (good_count block dumps == 0) (are_equal block dumps) (good_count block dumps == length dumps) (list_any (wins block dumps) dumps) (sym (outcome_is preference block dumps) ∙ is) in
-      good_bytes block dumps others perm told.1 (not_none _ told.0)
+      let known = shows_taken preference (good_count block dumps == 0) (are_equal block dumps) (good_count block dumps == length dumps) (list_any (wins block dumps) dumps) (sym (outcome_is preference block dumps) ∙ is) in
+      good_bytes block dumps others perm known.1 (not_none _ known.0)
   bytes_by block Lost is a b = absurd (cc)
   bytes_by block First is a b = absurd (cc)
   bytes_by block Conflict is a b = refl
   bytes_by block Majority is a b =
-      let told = tells_majority preference (good_count block dumps == 0) (are_equal block dumps) (good_count block dumps == length dumps) (list_any (wins block dumps) dumps) (sym (outcome_is preference block dumps) ∙ is) in
-      let also = tells_majority preference (good_count block others == 0) (are_equal block others) (good_count block others == length others) (list_any (wins block others) others) (sym (outcome_is preference block others) ∙ same_outcome preference block dumps others perm ∙ is) in
-      winner_bytes block dumps others perm told also
+      let known = shows_majority preference (good_count block dumps == 0) (are_equal block dumps) (good_count block dumps == length dumps) (list_any (wins block dumps) dumps) (sym (outcome_is preference block dumps) ∙ is) in
+      let also = shows_majority preference (good_count block others == 0) (are_equal block others) (good_count block others == length others) (list_any (wins block others) others) (sym (outcome_is preference block others) ∙ same_outcome preference block dumps others perm ∙ is) in
+      winner_bytes block dumps others perm known also
 
   taken_too : (block : ℕ) → is_outcome Lost (choice preference dumps block).outcome ≡ false → is_outcome First (choice preference dumps block).outcome ≡ false
       → taken_bytes others (choice preference others block) ≡ taken_bytes dumps (choice preference dumps block)
@@ -117,9 +117,9 @@ counted_never became preference dumps all =
     count_none (λ (c : Choice). is_outcome became c.outcome) (map (choice preference dumps) (range_with_len 0 (merged_block_count dumps)))
     (All-map (λ (c : Choice). is_outcome became c.outcome ≡ false) (choice preference dumps) (range_with_len 0 (merged_block_count dumps)) all)
 
-pub made_tells : (b : Bool) (dump made : DumpView) → (if b then Some dump else None) ≡ Some made → (b ≡ true) × (dump ≡ made)
-made_tells true dump made is = (refl, same_Some dump made is)
-made_tells false dump made is = absurd (cc)
+pub made_shows : (b : Bool) (dump made : DumpView) → (if b then Some dump else None) ≡ Some made → (b ≡ true) × (dump ≡ made)
+made_shows true dump made is = (refl, same_Some dump made is)
+made_shows false dump made is = absurd (cc)
 
 -- the images are equal
 images : (preference : Preference) (dumps others : List DumpView) → IsPermutation dumps others → IsNever Lost preference dumps → IsNever First preference dumps
@@ -136,8 +136,8 @@ images preference dumps others perm lost first =
 pub order_law : OrderDoesNotMatter
 unfolding dump_of_choices dump_by
 order_law preference plain dumps others made perm is lost first =
-    let told = made_tells (outcome_count Conflict (choices preference dumps) == 0) (dump_by (keeps_codes plain dumps) dumps (choices preference dumps)) made is in
-    let conflict = never Conflict preference dumps (is_number _ _ told.0) in
+    let known = made_shows (outcome_count Conflict (choices preference dumps) == 0) (dump_by (keeps_codes plain dumps) dumps (choices preference dumps)) made is in
+    let conflict = never Conflict preference dumps (is_number _ _ known.0) in
     let size = same_size preference dumps others perm in
     let too : IsNever Conflict preference others =
     subst (λ (n : ℕ). All (λ block. is_outcome Conflict (choice preference others block).outcome ≡ false) (range_with_len 0 n)) (sym size)
@@ -146,5 +146,5 @@ order_law preference plain dumps others made perm is lost first =
     let no_conflict : outcome_count Conflict (choices preference others) ≡ 0 = counted_never Conflict preference others too in (
       other,
       ap (λ (b : Bool). if b then Some other else None) (eq-eqb _ _ no_conflict),
-      images preference dumps others perm (never Lost preference dumps lost) (never First preference dumps first) ∙ ap (λ (d : DumpView). d.image) told.1,
+      images preference dumps others perm (never Lost preference dumps lost) (never First preference dumps first) ∙ ap (λ (d : DumpView). d.image) known.1,
     )

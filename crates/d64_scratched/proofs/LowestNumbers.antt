@@ -74,29 +74,29 @@ claims_more image seen cell block number =
 
 -- the table says for each block whether it is in the way of a scratched slot of these below a
 -- number
-abbrev pub Tells : List (List ℕ) → List (List ℕ) → LowestSlots → Type 0
-Tells image seen table =
+abbrev pub Records : List (List ℕ) → List (List ℕ) → LowestSlots → Type 0
+Records image seen table =
     (block number : ℕ)
     → block < BLOCKS
     → number ≤ 8 * BLOCKS
     → nat_lt (lowest_of table block) number ≡ list_any (nat_eq block) (blocks_left image (take number seen))
 
 -- a scratched slot is noted
-pub tells-scratched : (image seen : List (List ℕ)) (cell : List ℕ) (old new : LowestSlots) → is_scratched cell ≡ true → Tells image seen old
-    → Lowers old (scratched_way image cell).0 (length seen) new → Tells image (seen ++ cell ∷ []) new
-tells-scratched image seen cell old new scratched tells lowers block number within few =
+pub records-scratched : (image seen : List (List ℕ)) (cell : List ℕ) (old new : LowestSlots) → is_scratched cell ≡ true → Records image seen old
+    → Lowers old (scratched_way image cell).0 (length seen) new → Records image (seen ++ cell ∷ []) new
+records-scratched image seen cell old new scratched records lowers block number within few =
     let in_way : Bool = list_any (nat_eq block) (scratched_way image cell).0 in
     lowers block number within
-    ∙ ap (λ (a : Bool). a || (in_way && nat_lt (length seen) number)) (tells block number within few)
+    ∙ ap (λ (a : Bool). a || (in_way && nat_lt (length seen) number)) (records block number within few)
     ∙ ap (λ (s : Bool). list_any (nat_eq block) (blocks_left image (take number seen)) || (s && (in_way && nat_lt (length seen) number))) (sym scratched)
     ∙ sym (claims_more image seen cell block number)
 
 -- another one isn't
-pub tells-other : (image seen : List (List ℕ)) (cell : List ℕ) (table : LowestSlots) → is_scratched cell ≡ false → Tells image seen table
-    → Tells image (seen ++ cell ∷ []) table
-tells-other image seen cell table other tells block number within few =
+pub records-other : (image seen : List (List ℕ)) (cell : List ℕ) (table : LowestSlots) → is_scratched cell ≡ false → Records image seen table
+    → Records image (seen ++ cell ∷ []) table
+records-other image seen cell table other records block number within few =
     let in_way : Bool = list_any (nat_eq block) (scratched_way image cell).0 in
-    tells block number within few
+    records block number within few
     ∙ or_nothing (list_any (nat_eq block) (blocks_left image (take number seen)))
     ∙ ap (λ (s : Bool). list_any (nat_eq block) (blocks_left image (take number seen)) || (s && (in_way && nat_lt (length seen) number))) (sym other)
     ∙ sym (claims_more image seen cell block number)

@@ -12,7 +12,7 @@ use Rattle.d64_survey.specs.Owners.{is_owned, is_unowned}
 use Rattle.d64_survey.specs.Way.{way, is_whole}
 use Rattle.d64_survey.specs.declared.way_end.WayEnd.{WayEnd}
 use Rattle.d64_survey.specs.declared.way_end.WayEnd.TheVariants.{End, Off, Loop}
-use Rattle.d64_survey.proofs.Told.{bounded}
+use Rattle.d64_survey.proofs.Traced.{bounded}
 use Rattle.d64_scratched.specs.LossLaws.{FilesThatAreNotLostCanBeRestored}
 use Rattle.d64_scratched.specs.Scratched.{scratched_way, is_claimed_below, is_scratched_missized, where_lost, losses, is_lost}
 use Rattle.d64_scratched.specs.declared.loss.Loss.TheVariants.{Chain, Reused, Marked, Size, Claimed, Unreadable}
@@ -57,10 +57,10 @@ not_lost-restored image codes slot cell h =
     let parts = not_fatal (not (is_whole walked.1)) (list_any (is_owned image) walked.0) (list_any (is_unowned image) walked.0) (is_scratched_missized cell walked)
     (list_any (is_claimed_below image slot) walked.0) (any_unreadable codes walked.0) h in
     let end : (way image (first_pair cell)).1 ≡ End = ends walked.1 parts.0 in
-    let told = bounded image (first_pair cell) in
+    let listed = bounded image (first_pair cell) in
     record {
-      chain = (told.chain end).0;
-      some = (told.chain end).1;
+      chain = (listed.chain end).0;
+      some = (listed.chain end).1;
       free = all_free image walked.0 parts.1 parts.2;
       size = eqb-true (length walked.0) (size_of cell) (right_size (is_whole walked.1) (length walked.0 == size_of cell) parts.0 parts.3);
     }

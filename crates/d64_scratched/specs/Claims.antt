@@ -18,6 +18,6 @@ Lowers old blocks slot new =
     → nat_lt (lowest_of new block) number ≡ (nat_lt (lowest_of old block) number || (list_any (nat_eq block) blocks && nat_lt slot number))
 
 -- the table says for each block whether it is in the way of a scratched slot below a number
-abbrev pub TellsClaims : Disk → LowestSlots → Type 0
-TellsClaims image table =
+abbrev pub RecordsClaims : Disk → LowestSlots → Type 0
+RecordsClaims image table =
     (block slot : ℕ) → block < BLOCKS → slot ≤ 8 * BLOCKS → nat_lt (lowest_of table block) slot ≡ is_claimed_below image slot block

@@ -2,7 +2,7 @@
 ghost use Rattle.std.specs.Prelude.{length, ◌≡◌, ◌<◌, ◌≤◌, ◌*◌, ℕ, nat_lt, ◌&&◌, ◌||◌, nat_eq, false};
 ghost use Rattle.std.specs.List.{list_any};
 ghost use Rattle.d64_image.specs.declared.block.TheConstants.{BLOCKS};
-ghost use Rattle.d64_scratched.specs.Claims.{lowest_of, Lowers, TellsClaims};
+ghost use Rattle.d64_scratched.specs.Claims.{lowest_of, Lowers, RecordsClaims};
 ghost use Rattle.d64_scratched.specs.Scratched.{is_scratched, scratched_way};
 ghost use Rattle.d64_survey.specs.Owners.{way_slots};
 
@@ -30,7 +30,7 @@ impl LowestSlots {
 
     /// The lowest slots for all blocks of an image. It walks the way of each scratched slot once.
     pub(crate) fn of(survey: &Survey) -> LowestSlots
-        ensures told { TellsClaims survey.now result }
+        ensures listed { RecordsClaims survey.now result }
         ensures few { length (way_slots survey.now) ≤ 8 * BLOCKS }
     {
         let mut lowest = LowestSlots::empty();

@@ -45,14 +45,14 @@ impl<'s, 'a> Model for ScratchedSlots<'s, 'a> {
     ghost use Rattle.d64_image.specs.declared.block.TheConstants.{BLOCKS};
     ghost use Rattle.d64_map.specs.Map.{free_blocks};
     ghost use Rattle.d64_survey.specs.Owners.{way_slots};
-    ghost use Rattle.d64_scratched.specs.Claims.{TellsClaims};
+    ghost use Rattle.d64_scratched.specs.Claims.{RecordsClaims};
 
     ghost Value = { List (List ℕ) };
 
     ghost view = { λ slots. slots.survey.now };
 
     ghost invariant = { λ slots. (slots.free ≡ free_blocks slots.survey.now)
-        × TellsClaims slots.survey.now slots.lowest
+        × RecordsClaims slots.survey.now slots.lowest
         × (length (way_slots slots.survey.now) ≤ 8 * BLOCKS) };
 }
 

@@ -6,19 +6,19 @@ use Rattle.program_arguments.specs.declared.jobs.JobFault.TheVariants.{Words, St
 use Rattle.d64_shell.specs.Program.{IsErrorOf}
 
 -- a fault of arguments is an error of them, if it is one of clap's
-pub of_words : (words : List (List ℕ)) (fault : JobFault) → IsFault words fault → IsErrorOf words fault
-of_words words (Words error) is = inr is
-of_words words Start is = tt
-of_words words Memory is = tt
-of_words words Tracks is = tt
-of_words words Both is = tt
-of_words words Format is = tt
-of_words words Names is = tt
-of_words words Null is = tt
-of_words words Picture is = tt
-of_words words Difference is = tt
-of_words words Folder is = tt
-of_words words Title is = tt
-of_words words Links is = tt
-of_words words Output is = tt
-of_words words Dumps is = tt
+pub of_arguments : (arguments : List (List ℕ)) (fault : JobFault) → IsFault arguments fault → IsErrorOf arguments fault
+of_arguments arguments (Words error) is = inr is
+of_arguments arguments Start is = tt
+of_arguments arguments Memory is = tt
+of_arguments arguments Tracks is = tt
+of_arguments arguments Both is = tt
+of_arguments arguments Format is = tt
+of_arguments arguments Names is = tt
+of_arguments arguments Null is = tt
+of_arguments arguments Picture is = tt
+of_arguments arguments Difference is = tt
+of_arguments arguments Folder is = tt
+of_arguments arguments Title is = tt
+of_arguments arguments Links is = tt
+of_arguments arguments Output is = tt
+of_arguments arguments Dumps is = tt

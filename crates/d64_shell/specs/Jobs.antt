@@ -9,7 +9,7 @@ use Rattle.cmd_basic.specs.declared.tools.Tool.{Tool}
 use Rattle.program_arguments.specs.declared.jobs.Job.TheVariants.{Shell, Petcat, Crunch, Check, Files, Extract, Map, Catalogue, Diff, Merge}
 use Rattle.program_arguments.specs.declared.jobs.Format.{Format}
 use Rattle.program_arguments.specs.declared.jobs.Leftovers.{Leftovers}
-use Rattle.program_surveys.specs.Answers.{Rule}
+use Rattle.program_surveys.specs.FileOutcomes.{Rule}
 use Rattle.cmd_check.specs.Check.{check_rule, heading_of as check_heading}
 use Rattle.cmd_files.specs.Files.{files_rule, file_heading_of as files_heading}
 use Rattle.cmd_extract.specs.Extracts.{extract_heading}

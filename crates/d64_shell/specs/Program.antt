@@ -5,7 +5,7 @@ use Rattle.program_arguments.specs.Requested.{IsFault, IsJob, IsHelpOrVersion}
 use Rattle.program_arguments.specs.declared.jobs.Job.{Job}
 use Rattle.program_arguments.specs.declared.jobs.JobFault.{JobFault}
 use Rattle.program_arguments.specs.declared.jobs.JobFault.TheVariants.{Words}
-use Rattle.program_surveys.specs.Answers.{by_rule}
+use Rattle.program_surveys.specs.FileOutcomes.{by_rule}
 use Rattle.cmd_extract.specs.Effects.{unpacks}
 use Rattle.program_console.specs.Outside.{Outside}
 use Rattle.program_console.specs.NoJob.{ReportsNoJob}
@@ -26,31 +26,31 @@ EndedWork (Comparison rule old_name new_name) old new status = EndedComparison r
 EndedWork (Merging setup) old new status = EndedMerge setup old new status
 
 -- the arguments with the program's name before them
-abbrev pub named_words : List (List ℕ) → List (List ℕ)
-named_words after = codes "d64sh" ∷ after
+abbrev pub named_arguments : List (List ℕ) → List (List ℕ)
+named_arguments after = codes "d64sh" ∷ after
 
 -- arguments, each shown as a name of the host
-abbrev pub shown_words : List (List ℕ) → List (List ℕ)
-shown_words words = map shown_name words
+abbrev pub shown_arguments : List (List ℕ) → List (List ℕ)
+shown_arguments arguments = map shown_name arguments
 
 -- a fault that is an error of clap's, and neither help nor version, is an error of these arguments
 abbrev pub IsErrorOf : List (List ℕ) → JobFault → Type 0
-IsErrorOf words (Words error) = IsHelpOrVersion (Words error) ⊎ IsFault words (Words error)
-IsErrorOf words fault = ⊤
+IsErrorOf arguments (Words error) = IsHelpOrVersion (Words error) ⊎ IsFault arguments (Words error)
+IsErrorOf arguments fault = ⊤
 
 -- the arguments ask for the shell
 abbrev pub AsksForShell : List (List ℕ) → Type 0
-AsksForShell after = (job : Job) × IsJob (named_words after) job × IsScript (work_of job)
+AsksForShell after = (job : Job) × IsJob (named_arguments after) job × IsScript (work_of job)
 
 -- the arguments ask to skip folders that exist, of each of which a line is written though all is
 -- well
 abbrev pub AsksToPassOver : List (List ℕ) → Type 0
-AsksToPassOver after = (job : Job) × IsJob (named_words after) job × PassesOver (work_of job)
+AsksToPassOver after = (job : Job) × IsJob (named_arguments after) job × PassesOver (work_of job)
 
 -- what the program has done, and its status: the job that the arguments ask for has ended; or they
 -- ask for none, which is reported, with nothing read and no file touched; an error of clap's is
 -- then one of the arguments as they are shown
 abbrev pub Ended : List (List ℕ) → Outside → Outside → ℕ → Type 0
 Ended after old new status =
-    ((job : Job) × IsJob (named_words after) job × EndedWork (work_of job) old new status)
-    ⊎ ((fault : JobFault) × IsFault (named_words after) fault × IsErrorOf (named_words (shown_words after)) fault × (new.reader ≡ old.reader) × (new.host ≡ old.host) × ReportsNoJob fault old.output new.output old.error new.error status)
+    ((job : Job) × IsJob (named_arguments after) job × EndedWork (work_of job) old new status)
+    ⊎ ((fault : JobFault) × IsFault (named_arguments after) fault × IsErrorOf (named_arguments (shown_arguments after)) fault × (new.reader ≡ old.reader) × (new.host ≡ old.host) × ReportsNoJob fault old.output new.output old.error new.error status)

@@ -1,6 +1,6 @@
 //! The job that arguments ask for, or a fault whose text has them as they are shown.
 ghost use Rattle.std.specs.Prelude.{◌≡◌, List, ℕ, IfErr, IfOk, IfSome, IsTrue, false, map, string_bytes};
-ghost use Rattle.d64_shell.specs.Program.{IsErrorOf, named_words, shown_words};
+ghost use Rattle.d64_shell.specs.Program.{IsErrorOf, named_arguments, shown_arguments};
 ghost use Rattle.host_storage.specs.Shown.{shown_name};
 ghost use Rattle.program_arguments.specs.Requested.{IsFault, IsJob};
 
@@ -11,28 +11,28 @@ use std::alloc::{AllocError, Global};
 /// Returns the job that the arguments after the program's name ask for. The text of an error of
 /// `clap`'s has them as names of the host are shown: as they were given they could command a
 /// terminal, or make a line of their own. If memory runs out for that, the fault is out of memory.
-pub(crate) fn requested_job(alloc: Global, words: &[&str]) -> Result<Job, JobFault>
-    ensures job { IfOk result (IsJob (named_words (map (λ word. word.now) words.now))) }
-    ensures fault { IfErr result (IsFault (named_words (map (λ word. word.now) words.now))) }
-    ensures shown { IfErr result (IsErrorOf (named_words (shown_words (map (λ word. word.now) words.now)))) }
+pub(crate) fn requested_job(alloc: Global, arguments: &[&str]) -> Result<Job, JobFault>
+    ensures job { IfOk result (IsJob (named_arguments (map (λ argument. argument.now) arguments.now))) }
+    ensures fault { IfErr result (IsFault (named_arguments (map (λ argument. argument.now) arguments.now))) }
+    ensures shown { IfErr result (IsErrorOf (named_arguments (shown_arguments (map (λ argument. argument.now) arguments.now)))) }
 {
-    match named_job(alloc, words) {
+    match named_job(alloc, arguments) {
         Ok(job) => Ok(job),
-        Err(fault) => Err(shown_fault(alloc, fault, words)),
+        Err(fault) => Err(shown_fault(alloc, fault, arguments)),
     }
 }
 
 /// Does the same, but the text has the arguments as they were given.
-fn named_job(alloc: Global, words: &[&str]) -> Result<Job, JobFault>
-    ensures job { IfOk result (IsJob (named_words (map (λ word. word.now) words.now))) }
-    ensures fault { IfErr result (IsFault (named_words (map (λ word. word.now) words.now))) }
+fn named_job(alloc: Global, arguments: &[&str]) -> Result<Job, JobFault>
+    ensures job { IfOk result (IsJob (named_arguments (map (λ argument. argument.now) arguments.now))) }
+    ensures fault { IfErr result (IsFault (named_arguments (map (λ argument. argument.now) arguments.now))) }
 {
     let mut all = Vec::new(alloc);
     match all.push("d64sh") {
         Ok(()) => {}
         Err(_) => return Err(JobFault::Memory),
     }
-    match all.extend_from_slice(words) {
+    match all.extend_from_slice(arguments) {
         Ok(()) => {}
         Err(_) => return Err(JobFault::Memory),
     }
@@ -41,14 +41,14 @@ fn named_job(alloc: Global, words: &[&str]) -> Result<Job, JobFault>
 
 /// Returns the fault of these arguments, whose text has them as they are shown if it is one of
 /// `clap`'s.
-fn shown_fault(alloc: Global, fault: JobFault, words: &[&str]) -> JobFault
+fn shown_fault(alloc: Global, fault: JobFault, arguments: &[&str]) -> JobFault
     ensures fault { (requested : List (List ℕ)) → IsFault requested fault → IsFault requested result }
-    ensures shown { IsErrorOf (named_words (shown_words (map (λ word. word.now) words.now))) result }
+    ensures shown { IsErrorOf (named_arguments (shown_arguments (map (λ argument. argument.now) arguments.now))) result }
 {
-    if !has_words(&fault) {
+    if !has_arguments(&fault) {
         return fault;
     }
-    match shown_texts(alloc, words) {
+    match shown_texts(alloc, arguments) {
         Some(shown) => fault_as_shown(alloc, fault, shown.as_slice()),
         None => JobFault::Memory,
     }
@@ -56,8 +56,8 @@ fn shown_fault(alloc: Global, fault: JobFault, words: &[&str]) -> JobFault
 
 /// Whether the fault is an error of `clap`'s whose text has arguments: neither help nor the
 /// version.
-fn has_words(fault: &JobFault) -> bool
-    ensures { result ≡ false → (words : List (List ℕ)) → IsErrorOf words fault.now }
+fn has_arguments(fault: &JobFault) -> bool
+    ensures { result ≡ false → (arguments : List (List ℕ)) → IsErrorOf arguments fault.now }
 {
     match fault {
         JobFault::Words(_) => !fault.is_help_or_version(),
@@ -69,13 +69,13 @@ fn has_words(fault: &JobFault) -> bool
 /// fault is out of memory. No arguments are known whose fault changes its kind.
 fn fault_as_shown(alloc: Global, fault: JobFault, shown: &[String]) -> JobFault
     ensures fault { (requested : List (List ℕ)) → IsFault requested fault → IsFault requested result }
-    ensures shown { IsErrorOf (named_words (map string_bytes shown.now)) result }
+    ensures shown { IsErrorOf (named_arguments (map string_bytes shown.now)) result }
 {
-    let words = match lent(alloc, shown) {
-        Ok(words) => words,
+    let arguments = match lent(alloc, shown) {
+        Ok(arguments) => arguments,
         Err(_) => return JobFault::Memory,
     };
-    match named_job(alloc, words.as_slice()) {
+    match named_job(alloc, arguments.as_slice()) {
         Ok(_job) => JobFault::Memory,
         Err(other) => last_if_alike(&fault, other),
     }
@@ -83,10 +83,10 @@ fn fault_as_shown(alloc: Global, fault: JobFault, shown: &[String]) -> JobFault
 
 /// Returns the second of two faults if both are errors of `clap`'s and of one kind, and otherwise
 /// out of memory.
-#[tactic(auto, using(crate::proofs::Errors::of_words))]
+#[tactic(auto, using(crate::proofs::Errors::of_arguments))]
 fn last_if_alike(fault: &JobFault, other: JobFault) -> JobFault
     ensures fault { (requested : List (List ℕ)) → IsFault requested fault.now → IsFault requested result }
-    ensures shown { (words : List (List ℕ)) → IsFault words other → IsErrorOf words result }
+    ensures shown { (arguments : List (List ℕ)) → IsFault arguments other → IsErrorOf arguments result }
 {
     if are_alike(fault, &other) {
         return other;
@@ -105,12 +105,12 @@ fn are_alike(fault: &JobFault, other: &JobFault) -> bool
 }
 
 /// Returns arguments, each shown as a name of the host, or None if memory runs out.
-fn shown_texts(alloc: Global, words: &[&str]) -> Option<Vec<String>>
-    ensures { IfSome result (λ all. map string_bytes all.items ≡ shown_words (map (λ word. word.now) words.now)) }
+fn shown_texts(alloc: Global, arguments: &[&str]) -> Option<Vec<String>>
+    ensures { IfSome result (λ all. map string_bytes all.items ≡ shown_arguments (map (λ argument. argument.now) arguments.now)) }
 {
     let mut all = Vec::new(alloc);
-    for word in words {
-        match all.push(shown_text(alloc, word)?) {
+    for argument in arguments {
+        match all.push(shown_text(alloc, argument)?) {
             Ok(()) => {}
             Err(_) => return None,
         }
@@ -119,11 +119,11 @@ fn shown_texts(alloc: Global, words: &[&str]) -> Option<Vec<String>>
 }
 
 /// Returns an argument, shown as a name of the host, or None if memory runs out.
-fn shown_text(alloc: Global, word: &str) -> Option<String>
-    ensures { IfSome result (λ text. string_bytes text ≡ shown_name word.now) }
+fn shown_text(alloc: Global, argument: &str) -> Option<String>
+    ensures { IfSome result (λ text. string_bytes text ≡ shown_name argument.now) }
 {
     let mut shown = Vec::new(alloc);
-    match push_shown(&mut shown, word.as_bytes()) {
+    match push_shown(&mut shown, argument.as_bytes()) {
         Ok(()) => {}
         Err(_) => return None,
     }
@@ -132,12 +132,12 @@ fn shown_text(alloc: Global, word: &str) -> Option<String>
 }
 
 /// Borrows the arguments.
-fn lent(alloc: Global, words: &[String]) -> Result<Vec<&str>, AllocError>
-    ensures { IfOk result (λ all. map (λ word. word.now) all.items ≡ map string_bytes words.now) }
+fn lent(alloc: Global, arguments: &[String]) -> Result<Vec<&str>, AllocError>
+    ensures { IfOk result (λ all. map (λ argument. argument.now) all.items ≡ map string_bytes arguments.now) }
 {
     let mut all = Vec::new(alloc);
-    for word in words {
-        all.push(word.as_str())?;
+    for argument in arguments {
+        all.push(argument.as_str())?;
     }
     Ok(all)
 }

@@ -43,18 +43,18 @@ use std::io::{Read, Write};
 /// call of theirs failed: an `ObservedProgram` takes streams of which it can.
 pub fn program<R: Read, W: Write, F: Write, H: Host>(
     alloc: Global,
-    words: &[&str],
+    arguments: &[&str],
     reader: &mut R,
     writer: &mut W,
     faults: &mut F,
     host: &mut H,
 ) -> u8
     ensures status { result ≤ 2 }
-    ensures ended { (reading : Reading) × (output_failed : Bool) × (faults_failed : Bool) × Ended (map (λ word. word.now) words.now)
+    ensures ended { (reading : Reading) × (output_failed : Bool) × (faults_failed : Bool) × Ended (map (λ argument. argument.now) arguments.now)
         (outside_of (R.remaining reader.old) (reading_of 0 0 false) (account_of (W.contents writer.old) false) (account_of (F.contents faults.old) false) (H.state host.old))
         (outside_of (R.remaining reader.new) reading (account_of (W.contents writer.new) output_failed) (account_of (F.contents faults.new) faults_failed) (H.state host.new)) result }
-    ensures silent { (AsksToPassOver (map (λ word. word.now) words.now) → ⊥) → result ≡ 0 → faults.new ≡ faults.old }
-    ensures script { AsksForShell (map (λ word. word.now) words.now) → result ≢ 2 → faults.new ≡ faults.old }
+    ensures silent { (AsksToPassOver (map (λ argument. argument.now) arguments.now) → ⊥) → result ≡ 0 → faults.new ≡ faults.old }
+    ensures script { AsksForShell (map (λ argument. argument.now) arguments.now) → result ≢ 2 → faults.new ≡ faults.old }
 {
     let mut console = Console::new(
         InputStream::new(reader),
@@ -66,7 +66,7 @@ pub fn program<R: Read, W: Write, F: Write, H: Host>(
         alloc,
         observer: &mut nobody,
     };
-    program.run(words, &mut console, host)
+    program.run(arguments, &mut console, host)
 }
 
 /// The program with memory, and an observer that follows the shell's output if the script is the
@@ -84,7 +84,7 @@ impl<'l, L: Observer> ObservedProgram<'l, L> {
     /// line and what is wrong with the arguments are written whole unless writing them fails.
     pub fn run<R: Read, W: Write, F: Write, H: Host>(
         self,
-        words: &[&str],
+        arguments: &[&str],
         console: &mut Console<'_, R, W, F>,
         host: &mut H,
     ) -> u8
@@ -92,13 +92,13 @@ impl<'l, L: Observer> ObservedProgram<'l, L> {
         ensures same { SameStreams console.old console.new }
         ensures status { result ≤ 2 }
         ensures delivered { result ≡ 0 → IsDelivered console.new.outputs.output }
-        ensures ended { Ended (map (λ word. word.now) words.now)
+        ensures ended { Ended (map (λ argument. argument.now) arguments.now)
             (outside_at R.remaining W.contents F.contents console.old (H.state host.old))
             (outside_at R.remaining W.contents F.contents console.new (H.state host.new)) result }
-        ensures silent { (AsksToPassOver (map (λ word. word.now) words.now) → ⊥) → result ≡ 0 → console.new.outputs.faults ≡ console.old.outputs.faults }
-        ensures script { AsksForShell (map (λ word. word.now) words.now) → result ≢ 2 → console.new.outputs.faults ≡ console.old.outputs.faults }
+        ensures silent { (AsksToPassOver (map (λ argument. argument.now) arguments.now) → ⊥) → result ≡ 0 → console.new.outputs.faults ≡ console.old.outputs.faults }
+        ensures script { AsksForShell (map (λ argument. argument.now) arguments.now) → result ≢ 2 → console.new.outputs.faults ≡ console.old.outputs.faults }
     {
-        match requested_job(self.alloc, words) {
+        match requested_job(self.alloc, arguments) {
             Ok(job) => self.do_job(job, console, host),
             Err(fault) => report_no_job(self.alloc, fault, &mut console.outputs),
         }

@@ -11,7 +11,7 @@ pub use d64_dos::{Command, Refusal, Reply};
 pub use d64_undo::laws::{
     memory_alone_is_free, memory_for_acceptance, redo_after_undo, retraced, undo_after_command,
 };
-pub use d64_undo::{Answer, NothingToRedo, NothingToUndo, Request, Session, run_all};
+pub use d64_undo::{NothingToRedo, NothingToUndo, Request, RequestOutcome, Session, run_all};
 pub use entry::{ObservedProgram, program};
 pub use host_memory::MemoryHost;
 pub use host_storage::{FolderHost, Host, HostFault};

@@ -20,7 +20,7 @@ use Rattle.d64_files.specs.Directory.{directory, owned_blocks, condition_number}
 use Rattle.d64_files.specs.FirstFault.{is_nil, fails, first_fault, sound_conditions}
 use Rattle.d64_files.specs.declared.dir_fault.DirFault.{DirFault}
 use Rattle.d64_files.specs.declared.dir_fault.DirFault.TheVariants as conditions
-use Rattle.d64_files.proofs.FirstFaults.{met, sound_tells}
+use Rattle.d64_files.proofs.FirstFaults.{met, sound_decides}
 use Rattle.d64_survey.specs.Way.{way, is_whole}
 use Rattle.d64_survey.specs.Owners.{pair_of, blocks_from, directory_way, way_slots, owners, blocks_owned, owners_of, is_owned, is_shared}
 use Rattle.d64_survey.specs.SlotBlocks.{slot_blocks}
@@ -34,7 +34,7 @@ use Rattle.d64_survey.specs.declared.owner.Part.{Part}
 use Rattle.d64_survey.specs.declared.owner.Part.TheVariants.{Data, Side}
 use Rattle.d64_survey.specs.declared.way_end.WayEnd.{WayEnd}
 use Rattle.d64_survey.specs.declared.way_end.WayEnd.TheVariants.{End, Off, Loop}
-use Rattle.d64_survey.proofs.Told.{bounded}
+use Rattle.d64_survey.proofs.Traced.{bounded}
 use Rattle.d64_survey.proofs.Owning.{few_roots, slots_are, owned_are, blocks_owned-are}
 
 -- the number of the first fault
@@ -42,7 +42,7 @@ abbrev first_number : List Fault → Option ℕ
 first_number list = option_map number (slice_get list 0)
 
 -- faults are there exactly if a test says so, and the first has this number
-record Tells (failed : Bool) (n : ℕ) (list : List Fault) : Type 0 where
+record Records (failed : Bool) (n : ℕ) (list : List Fault) : Type 0 where
   none : failed ≡ false → list ≡ []
   first : failed ≡ true → first_number list ≡ Some n
 
@@ -52,23 +52,23 @@ first_before [] rest n e = absurd (let f : None ≡ Some n = e in cc)
 first_before (fault ∷ list) rest n e = e
 
 -- what holds of two lists
-both_tell : (failed others_failed : Bool) (n : ℕ) (list others : List Fault) → Tells failed n list → Tells others_failed n others → Tells (failed || others_failed) n (list ++ others)
-both_tell true others_failed n list others t u = record {
+both_record : (failed others_failed : Bool) (n : ℕ) (list others : List Fault) → Records failed n list → Records others_failed n others → Records (failed || others_failed) n (list ++ others)
+both_record true others_failed n list others t u = record {
   none = λ (e : true ≡ false). absurd (cc);
   first = λ _. first_before list others n (t.first refl);
 }
-both_tell false others_failed n list others t u =
-    subst (λ (l : List Fault). Tells others_failed n (l ++ others)) (sym (t.none refl)) u
+both_record false others_failed n list others t u =
+    subst (λ (l : List Fault). Records others_failed n (l ++ others)) (sym (t.none refl)) u
 
 -- what holds of each list holds of all together
-all_tell : {X : Type 0} (test : X → Bool) (n : ℕ) (list : X → List Fault) → ((x : X) → Tells (test x) n (list x)) → (xs : List X) → Tells (list_any test xs) n (flat_map list xs)
-all_tell test n list each [] = record { none = λ _. refl; first = λ (e : false ≡ true). absurd (cc) }
-all_tell test n list each (x ∷ xs) = both_tell (test x) (list_any test xs) n (list x) (flat_map list xs) (each x) (all_tell test n list each xs)
+all_record : {X : Type 0} (test : X → Bool) (n : ℕ) (list : X → List Fault) → ((x : X) → Records (test x) n (list x)) → (xs : List X) → Records (list_any test xs) n (flat_map list xs)
+all_record test n list each [] = record { none = λ _. refl; first = λ (e : false ≡ true). absurd (cc) }
+all_record test n list each (x ∷ xs) = both_record (test x) (list_any test xs) n (list x) (flat_map list xs) (each x) (all_record test n list each xs)
 
 -- a fault if there is one
-one_tells : (there : Bool) (fault : Fault) → Tells there (number fault) (where_so there fault)
-one_tells true fault = record { none = λ (e : true ≡ false). absurd (cc); first = λ _. refl }
-one_tells false fault = record { none = λ _. refl; first = λ (e : false ≡ true). absurd (cc) }
+one_records : (there : Bool) (fault : Fault) → Records there (number fault) (where_so there fault)
+one_records true fault = record { none = λ (e : true ≡ false). absurd (cc); first = λ _. refl }
+one_records false fault = record { none = λ _. refl; first = λ (e : false ≡ true). absurd (cc) }
 
 -- some fail if not all pass
 not_all : {X : Type 0} (test : X → Bool) (xs : List X) → list_any (λ x. not (test x)) xs ≡ not (list_all test xs)
@@ -85,12 +85,12 @@ any_numbered test n [] = refl
 any_numbered test n (cell ∷ cells) = ap (λ (t : Bool). test cell || t) (any_numbered test (n + 1) cells)
 
 -- the counts
-counts_tell : (image : List (List ℕ)) → Tells (fails image conditions.WrongCounts) 1 (count_faults image)
+counts_record : (image : List (List ℕ)) → Records (fails image conditions.WrongCounts) 1 (count_faults image)
 unfolding fails
-counts_tell image =
+counts_record image =
     let tracks = range_with_len 1 (tracks_of (length image)) in
     let fits : ℕ → Bool = λ track. eqb (count_of image track) (members_on (free_blocks image) track) in
-    subst (λ (t : Bool). Tells t 1 (count_faults image)) (not_all fits tracks) (all_tell (λ track. not (fits track)) 1 (count_fault image) (λ track. one_tells (not (fits track)) (WrongCount track (count_of image track) (members_on (free_blocks image) track))) tracks)
+    subst (λ (t : Bool). Records t 1 (count_faults image)) (not_all fits tracks) (all_record (λ track. not (fits track)) 1 (count_fault image) (λ track. one_records (not (fits track)) (WrongCount track (count_of image track) (members_on (free_blocks image) track))) tracks)
 
 -- a way that ends as a chain is one
 whole_is_end : (end : WayEnd) → is_whole end ≡ true → end ≡ End
@@ -118,49 +118,49 @@ not_whole image pair =
     ]
 
 -- the fault of a way is there if the chain isn't
-way_tells : (image : List (List ℕ)) (pair : ℕ × ℕ) (fault : Fault) → Tells (is_nil (chain_at image pair)) (number fault) (where_so (not (is_whole (way image pair).1)) fault)
-way_tells image pair fault =
-    subst (λ (t : Bool). Tells t (number fault) (where_so (not (is_whole (way image pair).1)) fault)) (not_whole image pair) (one_tells _ fault)
+way_records : (image : List (List ℕ)) (pair : ℕ × ℕ) (fault : Fault) → Records (is_nil (chain_at image pair)) (number fault) (where_so (not (is_whole (way image pair).1)) fault)
+way_records image pair fault =
+    subst (λ (t : Bool). Records t (number fault) (where_so (not (is_whole (way image pair).1)) fault)) (not_whole image pair) (one_records _ fault)
 
-directory_tells : (image : List (List ℕ)) → Tells (fails image conditions.NoDirectory) 2 (directory_faults image)
+directory_records : (image : List (List ℕ)) → Records (fails image conditions.NoDirectory) 2 (directory_faults image)
 unfolding fails
-directory_tells image = way_tells image (18, 1) (BrokenDirectory (last_of (directory_way image).0) (directory_way image).1)
+directory_records image = way_records image (18, 1) (BrokenDirectory (last_of (directory_way image).0) (directory_way image).1)
 
 -- the kinds
-kinds_tell : (image : List (List ℕ)) → directory image ≢ [] → Tells (fails image conditions.UnknownKind) 3 (kind_faults image)
+kinds_record : (image : List (List ℕ)) → directory image ≢ [] → Records (fails image conditions.UnknownKind) 3 (kind_faults image)
 unfolding fails
-kinds_tell image some =
+kinds_record image some =
     let cells = way_slots image in
-    subst (λ (t : Bool). Tells t 3 (kind_faults image))
+    subst (λ (t : Bool). Records t 3 (kind_faults image))
     (any_numbered (λ cell. not (has_kind cell)) 0 cells ∙ not_all has_kind cells ∙ ap (λ (cs : List (List ℕ)). not (list_all has_kind cs)) (sym (slots_are image some)))
-    (all_tell (λ (slot : ℕ × List ℕ). not (has_kind slot.1)) 3 kind_fault (λ slot. one_tells (not (has_kind slot.1)) (UnknownKind slot.0 (type_byte slot.1))) (enumerate_from 0 cells))
+    (all_record (λ (slot : ℕ × List ℕ). not (has_kind slot.1)) 3 kind_fault (λ slot. one_records (not (has_kind slot.1)) (UnknownKind slot.0 (type_byte slot.1))) (enumerate_from 0 cells))
 
 -- the fault of a way of a slot's file
 abbrev broken : List (List ℕ) → ℕ → Part → ℕ × ℕ → Fault
 broken image slot part pair = BrokenFile slot part (last_of (way image pair).0) (way image pair).1
 
 -- the ways of a slot
-roots_tell : (image : List (List ℕ)) (slot : ℕ) (pairs : List (ℕ × ℕ)) → length pairs ≤ 2
-    → Tells (list_any (λ pair. is_nil (chain_at image pair)) pairs) 4
+roots_record : (image : List (List ℕ)) (slot : ℕ) (pairs : List (ℕ × ℕ)) → length pairs ≤ 2
+    → Records (list_any (λ pair. is_nil (chain_at image pair)) pairs) 4
     (option_map_or (way_fault image slot Data) (slice_get pairs 0) [] ++ option_map_or (way_fault image slot Side) (slice_get pairs 1) [])
-roots_tell image slot [] few = record { none = λ _. refl; first = λ (e : false ≡ true). absurd (cc) }
-roots_tell image slot (main ∷ []) few = both_tell (is_nil (chain_at image main)) false 4 (way_fault image slot Data main) [] (way_tells image main (broken image slot Data main)) (record { none = λ _. refl; first = λ (e : false ≡ true). absurd (cc) })
-roots_tell image slot (main ∷ side ∷ []) few =
+roots_record image slot [] few = record { none = λ _. refl; first = λ (e : false ≡ true). absurd (cc) }
+roots_record image slot (main ∷ []) few = both_record (is_nil (chain_at image main)) false 4 (way_fault image slot Data main) [] (way_records image main (broken image slot Data main)) (record { none = λ _. refl; first = λ (e : false ≡ true). absurd (cc) })
+roots_record image slot (main ∷ side ∷ []) few =
     let second = is_nil (chain_at image side) in
-    both_tell (is_nil (chain_at image main)) (second || false) 4 (way_fault image slot Data main) (way_fault image slot Side side) (way_tells image main (broken image slot Data main))
-    (subst (λ (t : Bool). Tells t 4 (way_fault image slot Side side)) (sym (or_false second)) (way_tells image side (broken image slot Side side)))
+    both_record (is_nil (chain_at image main)) (second || false) 4 (way_fault image slot Data main) (way_fault image slot Side side) (way_records image main (broken image slot Data main))
+    (subst (λ (t : Bool). Records t 4 (way_fault image slot Side side)) (sym (or_false second)) (way_records image side (broken image slot Side side)))
   where
     or_false : (t : Bool) → (t || false) ≡ t
     or_false true = refl
     or_false false = refl
-roots_tell image slot (main ∷ side ∷ other ∷ pairs) few = absurd (omega arith)
+roots_record image slot (main ∷ side ∷ other ∷ pairs) few = absurd (omega arith)
 
-files_tell : (image : List (List ℕ)) → directory image ≢ [] → Tells (fails image conditions.NoChain) 4 (file_faults image)
+files_record : (image : List (List ℕ)) → directory image ≢ [] → Records (fails image conditions.NoChain) 4 (file_faults image)
 unfolding fails
-files_tell image some =
+files_record image some =
     let test : List ℕ → Bool = λ cell. list_any (λ (pair : ℕ × ℕ). is_nil (chain_at image pair)) (roots cell) in
-    subst (λ (t : Bool). Tells t 4 (file_faults image)) (any_numbered test 0 (way_slots image) ∙ ap (list_any test) (sym (slots_are image some)))
-    (all_tell (λ (slot : ℕ × List ℕ). test slot.1) 4 (λ (slot : ℕ × List ℕ). part_fault image slot Data ++ part_fault image slot Side) (λ slot. roots_tell image slot.0 (roots slot.1) (few_roots slot.1)) (enumerate_from 0 (way_slots image)))
+    subst (λ (t : Bool). Records t 4 (file_faults image)) (any_numbered test 0 (way_slots image) ∙ ap (list_any test) (sym (slots_are image some)))
+    (all_record (λ (slot : ℕ × List ℕ). test slot.1) 4 (λ (slot : ℕ × List ℕ). part_fault image slot Data ++ part_fault image slot Side) (λ slot. roots_record image slot.0 (roots slot.1) (few_roots slot.1)) (enumerate_from 0 (way_slots image)))
 
 -- a block has as many owners as it comes among the blocks that have one
 counted : (block : ℕ) (owned : List (ℕ × Owner)) → length (map (λ (o : ℕ × Owner). o.1) (filter (λ (o : ℕ × Owner). eqb block o.0) owned)) ≡ times (map (λ (o : ℕ × Owner). o.0) owned) block
@@ -304,11 +304,11 @@ shared_is image size =
       | inr f ↦ none_passes (is_shared image) (λ b. ap (ltb 1) (owners-counted image b) ∙ no_twice bs b f) blocks ∙ sym f
     ]
 
-shared_tell : (image : List (List ℕ)) → IsSize (length image) → blocks_owned image ≡ owned_blocks image → Tells (fails image conditions.CrossLinked) 5 (shared_faults image)
+shared_record : (image : List (List ℕ)) → IsSize (length image) → blocks_owned image ≡ owned_blocks image → Records (fails image conditions.CrossLinked) 5 (shared_faults image)
 unfolding fails
-shared_tell image size same =
-    subst (λ (t : Bool). Tells t 5 (shared_faults image)) (shared_is image size ∙ ap has_repeats same)
-    (all_tell (is_shared image) 5 (λ block. where_so (is_shared image block) (Shared block)) (λ block. one_tells (is_shared image block) (Shared block)) blocks)
+shared_record image size same =
+    subst (λ (t : Bool). Records t 5 (shared_faults image)) (shared_is image size ∙ ap has_repeats same)
+    (all_record (is_shared image) 5 (λ block. where_so (is_shared image block) (Shared block)) (λ block. one_records (is_shared image block) (Shared block)) blocks)
 
 -- if no block passes a test, each fails it
 each_fails : (test : ℕ → Bool) (bs : List ℕ) (block : ℕ) → list_any test bs ≡ false → list_any (eqb block) bs ≡ true → test block ≡ false
@@ -344,16 +344,16 @@ free_is image size =
       ]) blocks ∙ sym n
     ]
 
-free_tell : (image : List (List ℕ)) → IsSize (length image) → blocks_owned image ≡ owned_blocks image → Tells (fails image conditions.MarkedFree) 6 (free_faults image)
+free_record : (image : List (List ℕ)) → IsSize (length image) → blocks_owned image ≡ owned_blocks image → Records (fails image conditions.MarkedFree) 6 (free_faults image)
 unfolding fails
-free_tell image size same =
-    subst (λ (t : Bool). Tells t 6 (free_faults image)) (free_is image size ∙ ap (list_any (set.contains (free_blocks image))) same)
-    (all_tell (λ block. is_owned image block && set.contains (free_blocks image) block) 6
+free_record image size same =
+    subst (λ (t : Bool). Records t 6 (free_faults image)) (free_is image size ∙ ap (list_any (set.contains (free_blocks image))) same)
+    (all_record (λ block. is_owned image block && set.contains (free_blocks image) block) 6
     (λ block. where_so (is_owned image block && set.contains (free_blocks image) block) (MarkedFree block))
-    (λ block. one_tells (is_owned image block && set.contains (free_blocks image) block) (MarkedFree block)) blocks)
+    (λ block. one_records (is_owned image block && set.contains (free_blocks image) block) (MarkedFree block)) blocks)
 
 -- one condition before others
-step : (failed : Bool) (fault : DirFault) (others : Option DirFault) (list rest : List Fault) → Tells failed (condition_number fault) list
+step : (failed : Bool) (fault : DirFault) (others : Option DirFault) (list rest : List Fault) → Records failed (condition_number fault) list
     → (failed ≡ false → first_number rest ≡ option_map condition_number others) → first_number (list ++ rest) ≡ option_map condition_number (cond failed (Some fault) others)
 step true fault others list rest t next = first_before list rest (condition_number fault) (t.first refl)
 step false fault others list rest t next = ap (λ (l : List Fault). first_number (l ++ rest)) (t.none refl) ∙ next refl
@@ -361,14 +361,14 @@ step false fault others list rest t next = ap (λ (l : List Fault). first_number
 pub least : FirstFaultIsTheLeast
 unfolding faults first_fault
 least image size =
-    step _ conditions.WrongCounts _ (count_faults image) _ (counts_tell image) (λ counts.
-    step _ conditions.NoDirectory _ (directory_faults image) _ (directory_tells image) (λ exists.
+    step _ conditions.WrongCounts _ (count_faults image) _ (counts_record image) (λ counts.
+    step _ conditions.NoDirectory _ (directory_faults image) _ (directory_records image) (λ exists.
     let some = met image conditions.NoDirectory exists in
-    step _ conditions.UnknownKind _ (kind_faults image) _ (kinds_tell image some) (λ kinds.
-    step _ conditions.NoChain _ (file_faults image) _ (files_tell image some) (λ chains.
+    step _ conditions.UnknownKind _ (kind_faults image) _ (kinds_record image some) (λ kinds.
+    step _ conditions.NoChain _ (file_faults image) _ (files_record image some) (λ chains.
     let same = owned_are image some (met image conditions.NoChain chains) in
-    step _ conditions.CrossLinked _ (shared_faults image) _ (shared_tell image size same) (λ distinct.
-    ap first_number (sym (append-nil (free_faults image))) ∙ step _ conditions.MarkedFree None (free_faults image) [] (free_tell image size same) (λ used. refl))))))
+    step _ conditions.CrossLinked _ (shared_faults image) _ (shared_record image size same) (λ distinct.
+    ap first_number (sym (append-nil (free_faults image))) ∙ step _ conditions.MarkedFree None (free_faults image) [] (free_record image size same) (λ used. refl))))))
 
 -- a number that isn't there is no fault's
 no_fault : (fault : Option DirFault) → option_map condition_number fault ≡ None → fault ≡ None
@@ -381,6 +381,6 @@ no_faults (fault ∷ list) e = absurd (let f : Some (number fault) ≡ None = e 
 
 pub sound : NoFaultWhereSound
 sound image size = (
-  λ e. (sound_tells image).0.0 (no_fault (first_fault image sound_conditions) (sym (least image size) ∙ ap first_number e)),
-  λ all. no_faults (faults image) (least image size ∙ ap (option_map condition_number) ((sound_tells image).0.1 all)),
+  λ e. (sound_decides image).0.0 (no_fault (first_fault image sound_conditions) (sym (least image size) ∙ ap first_number e)),
+  λ all. no_faults (faults image) (least image size ∙ ap (option_map condition_number) ((sound_decides image).0.1 all)),
 )

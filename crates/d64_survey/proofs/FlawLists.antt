@@ -48,7 +48,7 @@ one_by_one none l1 l2 l3 l4 l5 l6 l7 a b c d e f g h h1 h2 h3 h4 h5 h6 h7 =
     ∙ ap (λ (l : List Flaw). l ++ (where_flawed a Unclosed ++ r2)) h
 
 -- what is reported about a file
-pub record Told (image : List (List ℕ)) (codes : Option (List ℕ)) (cell : List ℕ) (a b c d e f g : Bool) : Type 0 where
+pub record Shown (image : List (List ℕ)) (codes : Option (List ℕ)) (cell : List ℕ) (a b c d e f g : Bool) : Type 0 where
   pub closed : a ≡ not (is_closed cell)
   pub kind : b ≡ not (has_kind cell)
   pub broken : c ≡ is_broken image cell
@@ -57,9 +57,9 @@ pub record Told (image : List (List ℕ)) (codes : Option (List ℕ)) (cell : Li
   pub missized : f ≡ (not (is_geos image cell) && is_missized image cell)
   pub geos : g ≡ is_geos image cell
 
-told_are : (image : List (List ℕ)) (codes : Option (List ℕ)) (cell : List ℕ) (a b c d e f g : Bool) → Told image codes cell a b c d e f g
+shown_are : (image : List (List ℕ)) (codes : Option (List ℕ)) (cell : List ℕ) (a b c d e f g : Bool) → Shown image codes cell a b c d e f g
     → listed a b c d e f g ≡ flaws_of image codes cell
-told_are image codes cell a b c d e f g t =
+shown_are image codes cell a b c d e f g t =
     ap (λ (x : Bool). listed x b c d e f g) t.closed
     ∙ ap (λ (x : Bool). listed (not (is_closed cell)) x c d e f g) t.kind
     ∙ ap (λ (x : Bool). listed (not (is_closed cell)) (not (has_kind cell)) x d e f g) t.broken
@@ -72,8 +72,8 @@ told_are image codes cell a b c d e f g t =
 
 -- the flaws of a file, one after another
 pub all_flaws : (image : List (List ℕ)) (codes : Option (List ℕ)) (cell : List ℕ) (none l1 l2 l3 l4 l5 l6 l7 : List Flaw) (a b c d e f g : Bool)
-    → is_del_entry cell ≡ false → Told image codes cell a b c d e f g → none ≡ [] → l1 ≡ none ++ where_flawed a Unclosed → l2 ≡ l1 ++ where_flawed b Kindless
+    → is_del_entry cell ≡ false → Shown image codes cell a b c d e f g → none ≡ [] → l1 ≡ none ++ where_flawed a Unclosed → l2 ≡ l1 ++ where_flawed b Kindless
     → l3 ≡ l2 ++ where_flawed c Broken → l4 ≡ l3 ++ where_flawed d Shared → l5 ≡ l4 ++ where_flawed e Unreadable → l6 ≡ l5 ++ where_flawed f Missized
     → l7 ≡ l6 ++ where_flawed g Geos → l7 ≡ why image codes cell
-all_flaws image codes cell none l1 l2 l3 l4 l5 l6 l7 a b c d e f g other told h h1 h2 h3 h4 h5 h6 h7 =
-    one_by_one none l1 l2 l3 l4 l5 l6 l7 a b c d e f g h h1 h2 h3 h4 h5 h6 h7 ∙ told_are image codes cell a b c d e f g told ∙ others_have image codes cell other
+all_flaws image codes cell none l1 l2 l3 l4 l5 l6 l7 a b c d e f g other shown h h1 h2 h3 h4 h5 h6 h7 =
+    one_by_one none l1 l2 l3 l4 l5 l6 l7 a b c d e f g h h1 h2 h3 h4 h5 h6 h7 ∙ shown_are image codes cell a b c d e f g shown ∙ others_have image codes cell other

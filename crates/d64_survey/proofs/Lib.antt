@@ -2,7 +2,7 @@ pub mod DumpBytes
 pub mod FaultOrder
 pub mod Owning
 pub mod Steps
-pub mod Told
+pub mod Traced
 pub mod Trails
 pub mod FaultLists
 pub mod OwnerLists

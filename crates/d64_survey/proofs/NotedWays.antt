@@ -6,9 +6,9 @@ use Rattle.std.proofs.lemmas.Bool.{cases_Bool, cases_lt, eqb-true, eqb-false}
 use Rattle.std.proofs.lemmas.List.{get_or-set_other, get_or-replicate, get_or_past, length-replicate, length-set}
 use Rattle.std.proofs.lemmas.Grind.{get_or-set_at}
 use Rattle.d64_survey.specs.Way.{block_at}
-use Rattle.d64_survey.specs.WayFacts.{facts_of, way_facts, noted_way, TellsWays}
+use Rattle.d64_survey.specs.WayFacts.{facts_of, way_facts, noted_way, RecordsWays}
 use Rattle.d64_survey.specs.declared.way_table.WayFacts.{WayFacts}
-use Rattle.d64_survey.proofs.Told.{same_way}
+use Rattle.d64_survey.proofs.Traced.{same_way}
 
 -- what holds of a value in a list after another one is replaced
 held : (P : WayFacts → Type 0) (found other : Option WayFacts) → found ≡ other → IfSome other P → IfSome found P
@@ -23,14 +23,14 @@ noted_none n (Some block) = elim (cases_lt block n) [
 ]
 
 -- if nothing is noted, all that is noted is true
-pub none_noted : (image : List (List ℕ)) (codes : Option (List ℕ)) (ways : List (Option WayFacts)) → ((block : Option ℕ) → noted_way ways block ≡ None) → TellsWays image codes ways
+pub none_noted : (image : List (List ℕ)) (codes : Option (List ℕ)) (ways : List (Option WayFacts)) → ((block : Option ℕ) → noted_way ways block ≡ None) → RecordsWays image codes ways
 none_noted image codes ways none = λ pair. held (λ facts. facts ≡ way_facts image codes pair) (noted_way ways (block_at image pair)) None (none (block_at image pair)) tt
 
 -- one more way is noted
 pub one_noted : (image : List (List ℕ)) (codes : Option (List ℕ)) (ways : List (Option WayFacts)) (pair : ℕ × ℕ) (block : ℕ) (facts : WayFacts)
-    → block_at image pair ≡ Some block → facts ≡ way_facts image codes pair → TellsWays image codes ways
-    → TellsWays image codes (slice_set ways block (Some facts))
-one_noted image codes ways pair block facts found is tells = λ other. by_block other (block_at image other) refl
+    → block_at image pair ≡ Some block → facts ≡ way_facts image codes pair → RecordsWays image codes ways
+    → RecordsWays image codes (slice_set ways block (Some facts))
+one_noted image codes ways pair block facts found is records = λ other. by_block other (block_at image other) refl
   where
     so : ℕ × ℕ → WayFacts → Type 0
     so other facts = facts ≡ way_facts image codes other
@@ -53,10 +53,10 @@ one_noted image codes ways pair block facts found is tells = λ other. by_block 
       | inr f ↦
           let other_block : b ≢ block = eqb-false b block f in
           let here = ap (noted_way (slice_set ways block (Some facts))) e ∙ get_or-set_other ways block b (Some facts) None other_block ∙ sym (ap (noted_way ways) e) in
-          held (so other) (noted_way (slice_set ways block (Some facts)) (block_at image other)) (noted_way ways (block_at image other)) here (tells other)
+          held (so other) (noted_way (slice_set ways block (Some facts)) (block_at image other)) (noted_way ways (block_at image other)) here (records other)
     ]
 
 -- what is noted is true
-pub noted_is : (image : List (List ℕ)) (codes : Option (List ℕ)) (ways : List (Option WayFacts)) (pair : ℕ × ℕ) (facts : WayFacts) → TellsWays image codes ways
+pub noted_is : (image : List (List ℕ)) (codes : Option (List ℕ)) (ways : List (Option WayFacts)) (pair : ℕ × ℕ) (facts : WayFacts) → RecordsWays image codes ways
     → Some facts ≡ noted_way ways (block_at image pair) → facts ≡ way_facts image codes pair
-noted_is image codes ways pair facts tells same = held (λ facts. facts ≡ way_facts image codes pair) (Some facts) (noted_way ways (block_at image pair)) same (tells pair)
+noted_is image codes ways pair facts records same = held (λ facts. facts ≡ way_facts image codes pair) (Some facts) (noted_way ways (block_at image pair)) same (records pair)

@@ -9,8 +9,8 @@ use Rattle.d64_files.specs.Slot.{EntryView}
 use Rattle.d64_files.specs.Directory.{entries, entry_of}
 use Rattle.d64_files.proofs.Owners.{entries_from}
 use Rattle.d64_survey.specs.Owners.{directory_way, way_slots, owned_as, slot_owners, owners}
-use Rattle.d64_survey.specs.OwnerLists.{AreTold, owners_among}
-use Rattle.d64_survey.specs.OwnerTables.{row_owners, owner_row_of, Adds, TellsOwners}
+use Rattle.d64_survey.specs.OwnerLists.{AreListed, owners_among}
+use Rattle.d64_survey.specs.OwnerTables.{row_owners, owner_row_of, Adds, RecordsOwners}
 use Rattle.d64_survey.specs.declared.owner.Owner.{Owner}
 use Rattle.d64_survey.specs.declared.owner.Owner.TheVariants.{Map, Directory}
 use Rattle.d64_survey.specs.declared.owner_table.OwnerTable.{OwnerTable}
@@ -30,7 +30,7 @@ among-append block (o ∷ owned) others = by_test (eqb block o.0) (among-append 
 -- owners that are added after others
 pub then_added : (first second third : OwnerTable) (owned others : List (ℕ × Owner)) → Adds first owned second → Adds second others third → Adds first (owned ++ others) third
 then_added first second third owned others f g = λ block within all is.
-    subst (λ (l : List Owner). AreTold l (row_owners (owner_row_of third block)))
+    subst (λ (l : List Owner). AreListed l (row_owners (owner_row_of third block)))
     (append_assoc all (owners_among block owned) (owners_among block others) ∙ ap (λ (l : List Owner). all ++ l) (sym (among-append block owned others)))
     (g block within (all ++ owners_among block owned) (f block within all is))
 
@@ -46,10 +46,10 @@ all_claimed image block directory walk is_map is_directory is_walk =
     ∙ ap (λ (l : List (ℕ × Owner)). (map_block, Map) ∷ (owned_as Directory (directory_way image).0 ++ l)) (ap files is_walk ∙ entries_list (slot_owners image) image (way_slots image))
 
 -- a table to which these are added has the owners of the image
-pub all_told : (image : List (List ℕ)) (none table : OwnerTable) (owned : List (ℕ × Owner)) → ((block : ℕ) → block < BLOCKS → AreTold [] (row_owners (owner_row_of none block)))
-    → Adds none owned table → owned ≡ owners image → TellsOwners image table
-all_told image none table owned empty adds same = λ block within.
-    subst (λ (os : List (ℕ × Owner)). AreTold (owners_among block os) (row_owners (owner_row_of table block))) same (adds block within [] (empty block within))
+pub all_listed : (image : List (List ℕ)) (none table : OwnerTable) (owned : List (ℕ × Owner)) → ((block : ℕ) → block < BLOCKS → AreListed [] (row_owners (owner_row_of none block)))
+    → Adds none owned table → owned ≡ owners image → RecordsOwners image table
+all_listed image none table owned empty adds same = λ block within.
+    subst (λ (os : List (ℕ × Owner)). AreListed (owners_among block os) (row_owners (owner_row_of table block))) same (adds block within [] (empty block within))
 
 -- the numbers of entries are below their number
 numbers_from : (image : List (List ℕ)) (n limit : ℕ) (cells : List (List ℕ)) → n + length cells ≤ limit → All (λ (entry : EntryView). entry.slot < limit) (entries_from image n cells)

@@ -4,7 +4,7 @@ use Rattle.std.specs.Prelude.{replicate}
 use Rattle.std.proofs.lemmas.Bool.{cases_lt}
 use Rattle.std.proofs.lemmas.List.{get_or-replicate, get_or_past, take_more, map-append, length-replicate}
 use Rattle.d64_survey.specs.Owners.{owned_as}
-use Rattle.d64_survey.specs.OwnerLists.{AreTold}
+use Rattle.d64_survey.specs.OwnerLists.{AreListed}
 use Rattle.d64_survey.specs.OwnerTables.{row_owners}
 use Rattle.d64_survey.specs.declared.owner.Owner.{Owner}
 use Rattle.d64_survey.specs.declared.owner_table.Claimant.{Claimant}
@@ -15,9 +15,9 @@ abbrev blank : List Claimant → Row
 blank claimants = record { first = claimants; count = 0 }
 
 -- each of these rows has no owner
-pub none_told : (n : ℕ) (claimants : List Claimant) (d : Row) (block : ℕ) → block < n → AreTold [] (row_owners (get_or (replicate n (blank claimants)) block d))
-none_told n claimants d block within =
-    subst (λ (row : Row). AreTold [] (row_owners row)) (sym (get_or-replicate n block (blank claimants) d within)) (record { shown = refl; count = refl })
+pub none_listed : (n : ℕ) (claimants : List Claimant) (d : Row) (block : ℕ) → block < n → AreListed [] (row_owners (get_or (replicate n (blank claimants)) block d))
+none_listed n claimants d block within =
+    subst (λ (row : Row). AreListed [] (row_owners row)) (sym (get_or-replicate n block (blank claimants) d within)) (record { shown = refl; count = refl })
 
 -- and counts no owner
 pub none_counted : (n : ℕ) (claimants others : List Claimant) (block : ℕ) → (get_or (replicate n (blank claimants)) block (blank others)).count ≤ 0

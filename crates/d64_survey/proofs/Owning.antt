@@ -17,7 +17,7 @@ use Rattle.d64_survey.specs.SlotBlocks.{slot_blocks}
 use Rattle.d64_survey.specs.declared.owner.Part.TheVariants.{Data, Side}
 use Rattle.d64_survey.specs.declared.owner.Owner.{Owner}
 use Rattle.d64_survey.specs.declared.owner.Owner.TheVariants.{Directory, File}
-use Rattle.d64_survey.proofs.Told.{bounded}
+use Rattle.d64_survey.proofs.Traced.{bounded}
 
 -- the blocks that are owned by one
 blocks_as : (owner : Owner) (blocks : List ℕ) → map (λ (o : ℕ × Owner). o.0) (owned_as owner blocks) ≡ blocks

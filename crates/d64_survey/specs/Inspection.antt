@@ -18,12 +18,12 @@ slot_cell image slot = slice_get (way_slots image) slot
 -- whether a value is known, and true
 abbrev pub is_so : Option Bool → Bool
 is_so None = false
-is_so (Some answer) = answer
+is_so (Some outcome) = outcome
 
 -- whether a value is known, and false
 abbrev pub is_not_so : Option Bool → Bool
 is_not_so None = false
-is_not_so (Some answer) = not answer
+is_not_so (Some outcome) = not outcome
 
 -- whether a slot is used and its file is known to be whole
 abbrev pub is_whole_file : DumpView → Bytes → Bool

@@ -12,6 +12,6 @@ abbrev pub owners_among : ℕ → List (ℕ × Owner) → List Owner
 owners_among block owned = map (λ (o : ℕ × Owner). o.1) (filter (λ (o : ℕ × Owner). nat_eq block o.0) owned)
 
 -- of all owners the first eight are shown, and all are counted
-pub record AreTold (all : List Owner) (told : OwnersView) : Type 0 where
-  pub shown : told.shown ≡ take 8 all
-  pub count : told.count ≡ length all
+pub record AreListed (all : List Owner) (listed : OwnersView) : Type 0 where
+  pub shown : listed.shown ≡ take 8 all
+  pub count : listed.count ≡ length all

@@ -3,7 +3,7 @@ use Rattle.std.specs.Prelude.{ℕ, ◌+◌, ◌<◌, ◌≤◌, List, [], ◌++�
 use Rattle.d64_image.specs.declared.block.TheConstants.{BLOCKS}
 use Rattle.d64_image.specs.Disk.{Disk}
 use Rattle.d64_survey.specs.Owners.{owners_of}
-use Rattle.d64_survey.specs.OwnerLists.{OwnersView, AreTold, owners_among}
+use Rattle.d64_survey.specs.OwnerLists.{OwnersView, AreListed, owners_among}
 use Rattle.d64_survey.specs.declared.owner.Part.TheVariants as parts
 use Rattle.d64_survey.specs.declared.owner.Owner.{Owner}
 use Rattle.d64_survey.specs.declared.owner.Owner.TheVariants as owners
@@ -33,8 +33,8 @@ Adds old owned new =
     (block : ℕ)
     → block < BLOCKS
     → (all : List Owner)
-    → AreTold all (row_owners (owner_row_of old block))
-    → AreTold (all ++ owners_among block owned) (row_owners (owner_row_of new block))
+    → AreListed all (row_owners (owner_row_of old block))
+    → AreListed (all ++ owners_among block owned) (row_owners (owner_row_of new block))
 
 -- the second table counts at most n more owners of each block than the first
 abbrev pub AddsFew : OwnerTable → ℕ → OwnerTable → Type 0
@@ -45,5 +45,5 @@ abbrev pub CountsUpTo : ℕ → OwnerTable → Type 0
 CountsUpTo limit table = (block : ℕ) → (owner_row_of table block).count ≤ limit
 
 -- the table has the owners of each block of an image
-abbrev pub TellsOwners : Disk → OwnerTable → Type 0
-TellsOwners image table = (block : ℕ) → block < BLOCKS → AreTold (owners_of image block) (row_owners (owner_row_of table block))
+abbrev pub RecordsOwners : Disk → OwnerTable → Type 0
+RecordsOwners image table = (block : ℕ) → block < BLOCKS → AreListed (owners_of image block) (row_owners (owner_row_of table block))

@@ -27,5 +27,5 @@ abbrev pub noted_way : List (Option WayFacts) → Option ℕ → Option WayFacts
 noted_way ways block = option_map_or (λ block. slice_index_or ways block None) block None
 
 -- what is noted of a way is true of it
-abbrev pub TellsWays : Disk → Option Bytes → List (Option WayFacts) → Type 0
-TellsWays image codes ways = (pair : ℕ × ℕ) → IfSome (noted_way ways (block_at image pair)) (λ facts. facts ≡ way_facts image codes pair)
+abbrev pub RecordsWays : Disk → Option Bytes → List (Option WayFacts) → Type 0
+RecordsWays image codes ways = (pair : ℕ × ℕ) → IfSome (noted_way ways (block_at image pair)) (λ facts. facts ≡ way_facts image codes pair)

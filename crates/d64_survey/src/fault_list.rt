@@ -1,7 +1,7 @@
 //! The faults of an image, listed.
 ghost use Rattle.std.specs.Prelude.{◌≡◌, ◌++◌, OnOk, option_map};
 ghost use Rattle.d64_survey.specs.Faults.{count_faults, directory_faults, kind_faults, part_fault, file_faults, shared_faults, free_faults, faults as faults_of};
-ghost use Rattle.d64_survey.specs.WayFacts.{TellsWays};
+ghost use Rattle.d64_survey.specs.WayFacts.{RecordsWays};
 ghost use Rattle.d64_survey.specs.declared.owner.Part.TheVariants.{Data, Side};
 
 use crate::fault::Fault;
@@ -56,7 +56,7 @@ fn list_way(
     part: Part,
     faults: &mut Vec<Fault>,
 ) -> Result<(), AllocError>
-    requires { TellsWays survey.now (option_map (λ codes. codes.now) codes) ways.now.ways }
+    requires { RecordsWays survey.now (option_map (λ codes. codes.now) codes) ways.now.ways }
     ensures { OnOk result (faults.new.items ≡ faults.old.items ++ part_fault survey.now (entry.now.slot, entry.now.bytes) part) }
 {
     match pair_of(part, entry) {
@@ -77,7 +77,7 @@ fn list_file(
     entry: &Entry,
     faults: &mut Vec<Fault>,
 ) -> Result<(), AllocError>
-    requires { TellsWays survey.now (option_map (λ codes. codes.now) codes) ways.now.ways }
+    requires { RecordsWays survey.now (option_map (λ codes. codes.now) codes) ways.now.ways }
     ensures { OnOk result (faults.new.items ≡ faults.old.items ++ (part_fault survey.now (entry.now.slot, entry.now.bytes) Data ++ part_fault survey.now (entry.now.slot, entry.now.bytes) Side)) }
 {
     list_way(survey, codes, ways, entry, Part::Data, faults)?;
@@ -91,7 +91,7 @@ fn list_files(
     ways: &WayTable,
     faults: &mut Vec<Fault>,
 ) -> Result<(), AllocError>
-    requires { TellsWays survey.now (option_map (λ codes. codes.now) codes) ways.now.ways }
+    requires { RecordsWays survey.now (option_map (λ codes. codes.now) codes) ways.now.ways }
     ensures { OnOk result (faults.new.items ≡ faults.old.items ++ file_faults survey.now) }
 {
     for entry in survey.slots() {
@@ -140,7 +140,7 @@ impl Survey<'_> {
         ways: &WayTable,
         faults: &mut Vec<Fault>,
     ) -> Result<(), AllocError>
-        requires { TellsWays self.now (option_map (λ codes. codes.now) codes) ways.now.ways }
+        requires { RecordsWays self.now (option_map (λ codes. codes.now) codes) ways.now.ways }
         ensures { OnOk result (faults.new.items ≡ faults_of self.now) }
     {
         faults.clear();

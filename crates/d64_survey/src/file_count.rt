@@ -2,7 +2,7 @@
 ghost use Rattle.std.specs.Prelude.{◌≡◌, ◌+◌, ◌<◌, ◌&&◌, if◌then◌else◌, option_map};
 ghost use Rattle.d64_image.specs.declared.block.TheConstants.{BLOCKS};
 ghost use Rattle.d64_survey.specs.Inspection.{is_so, is_not_so, AreCounts};
-ghost use Rattle.d64_survey.specs.WayFacts.{TellsWays};
+ghost use Rattle.d64_survey.specs.WayFacts.{RecordsWays};
 
 use crate::flaw_list::wholeness;
 use crate::survey::Survey;
@@ -40,7 +40,7 @@ impl FileCounts {
 
 /// Counts the files of a dump, by its survey, its read codes and what is noted of its ways.
 pub(crate) fn count_files(survey: &Survey, codes: Option<&[u8]>, ways: &WayTable) -> FileCounts
-    requires { TellsWays survey.now (option_map (λ codes. codes.now) codes) ways.now.ways }
+    requires { RecordsWays survey.now (option_map (λ codes. codes.now) codes) ways.now.ways }
     ensures { AreCounts (record { image = survey.now; codes = option_map (λ codes. codes.now) codes.entry }) result }
 {
     let mut counts = FileCounts {

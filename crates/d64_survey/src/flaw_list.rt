@@ -3,7 +3,7 @@ ghost use Rattle.std.specs.Prelude.{◌≡◌, ◌+◌, ◌<◌, ◌≤◌, ◌&
 ghost use Rattle.d64_survey.specs.Owners.{blocks_from};
 ghost use Rattle.d64_survey.specs.SlotBlocks.{slot_blocks};
 ghost use Rattle.d64_survey.specs.Flaws.{is_del_entry, is_geos, is_broken_from, is_broken, any_shared, any_unreadable, is_missized, where_flawed, why, wholeness_by};
-ghost use Rattle.d64_survey.specs.WayFacts.{TellsWays};
+ghost use Rattle.d64_survey.specs.WayFacts.{RecordsWays};
 
 use crate::flaw::Flaw;
 use crate::owner::{data_pair, side_pair};
@@ -58,7 +58,7 @@ fn look_along(
     ways: &WayTable,
     pair: Option<(u8, u8)>,
 ) -> Sight
-    requires { TellsWays survey.now (option_map (λ codes. codes.now) codes) ways.now.ways }
+    requires { RecordsWays survey.now (option_map (λ codes. codes.now) codes) ways.now.ways }
     ensures blocks { result.blocks ≡ length (blocks_from survey.now pair) }
     ensures few { result.blocks < 65536 }
     ensures broken { result.is_broken ≡ is_broken_from survey.now pair }
@@ -86,7 +86,7 @@ fn look_along(
 
 /// What the ways of a slot's file show.
 fn look_at(survey: &Survey, codes: Option<&[u8]>, ways: &WayTable, entry: &Entry) -> Sight
-    requires { TellsWays survey.now (option_map (λ codes. codes.now) codes) ways.now.ways }
+    requires { RecordsWays survey.now (option_map (λ codes. codes.now) codes) ways.now.ways }
     ensures blocks { result.blocks ≡ length (slot_blocks survey.now entry.now.bytes) }
     ensures broken { result.is_broken ≡ is_broken survey.now entry.now.bytes }
     ensures shared { result.is_shared ≡ any_shared survey.now (slot_blocks survey.now entry.now.bytes) }
@@ -145,7 +145,7 @@ impl Survey<'_> {
         ways: &WayTable,
         entry: &Entry,
     ) -> ArrayVec<Flaw, FLAWS>
-        requires { TellsWays self.now (option_map (λ codes. codes.now) codes) ways.now.ways }
+        requires { RecordsWays self.now (option_map (λ codes. codes.now) codes) ways.now.ways }
         ensures { result.items ≡ why self.now (option_map (λ codes. codes.now) codes.entry) entry.now.bytes }
     {
         let mut list = ArrayVec::new();

@@ -50,7 +50,7 @@ impl<'a> Model for Inspection<'a> {
     ghost use Rattle.d64_survey.specs.Owners.{unowned_count};
     ghost use Rattle.d64_survey.specs.ReadErrors.{read_errors};
     ghost use Rattle.d64_survey.specs.Inspection.{AreCounts};
-    ghost use Rattle.d64_survey.specs.WayFacts.{TellsWays};
+    ghost use Rattle.d64_survey.specs.WayFacts.{RecordsWays};
 
     ghost Value = { DumpView };
 
@@ -59,7 +59,7 @@ impl<'a> Model for Inspection<'a> {
     ghost invariant = { λ all. (all.listed_faults.now ≡ faults all.survey)
         × (all.listed_errors.now ≡ read_errors (record { image = all.survey; codes = option_map (λ codes. codes.now) all.codes }))
         × AreCounts (record { image = all.survey; codes = option_map (λ codes. codes.now) all.codes }) all.files
-        × (all.unowned ≡ unowned_count all.survey) × (all.listed_doubts.items ≡ doubts all.survey) × TellsWays all.survey (option_map (λ codes. codes.now) all.codes) all.ways.ways };
+        × (all.unowned ≡ unowned_count all.survey) × (all.listed_doubts.items ≡ doubts all.survey) × RecordsWays all.survey (option_map (λ codes. codes.now) all.codes) all.ways.ways };
 }
 
 impl<'a> Inspection<'a> {

@@ -4,7 +4,7 @@ ghost use Rattle.std.specs.List.{flat_map};
 ghost use Rattle.d64_image.specs.declared.block.TheConstants.{BLOCKS};
 ghost use Rattle.d64_files.specs.Slot.{EntryView};
 ghost use Rattle.d64_survey.specs.Owners.{blocks_from, owned_as, slot_owners};
-ghost use Rattle.d64_survey.specs.OwnerLists.{AreTold};
+ghost use Rattle.d64_survey.specs.OwnerLists.{AreListed};
 ghost use Rattle.d64_survey.specs.OwnerTables.{owner_kept, row_owners, owner_row_of, Adds, AddsFew, CountsUpTo};
 ghost use Rattle.d64_survey.specs.declared.owner.Owner.{Owner};
 
@@ -58,7 +58,7 @@ impl Row {
     /// Adds an owner after the others.
     fn add(&mut self, claimant: Claimant)
         requires { self.old.count < 1000000000 }
-        ensures told { (all : List Owner) → AreTold all (row_owners self.old) → AreTold (all ++ owner_kept claimant ∷ []) (row_owners self.new) }
+        ensures listed { (all : List Owner) → AreListed all (row_owners self.old) → AreListed (all ++ owner_kept claimant ∷ []) (row_owners self.new) }
         ensures count { self.new.count ≡ self.old.count + 1 }
     {
         let place = self.count as usize;
@@ -84,7 +84,7 @@ impl Row {
 impl OwnerTable {
     /// The table in which no block has an owner.
     pub(crate) fn empty() -> OwnerTable
-        ensures told { (block : ℕ) → block < BLOCKS → AreTold [] (row_owners (owner_row_of result block)) }
+        ensures listed { (block : ℕ) → block < BLOCKS → AreListed [] (row_owners (owner_row_of result block)) }
         ensures few { CountsUpTo 0 result }
     {
         OwnerTable {
@@ -112,7 +112,7 @@ impl OwnerTable {
     /// Adds an owner of a block.
     pub(crate) fn claim(&mut self, block: BlockNo, claimant: Claimant)
         requires { CountsUpTo 100000000 self.old }
-        ensures told { Adds self.old ((block, owner_kept claimant) ∷ []) self.new }
+        ensures listed { Adds self.old ((block, owner_kept claimant) ∷ []) self.new }
         ensures few { AddsFew self.old 1 self.new }
     {
         self.rows[block.index()].add(claimant);
@@ -122,7 +122,7 @@ impl OwnerTable {
     pub(crate) fn claim_all(&mut self, blocks: &[BlockNo], claimant: Claimant)
         requires room { CountsUpTo 50000000 self.old }
         requires len { length blocks.now ≤ BLOCKS }
-        ensures told { Adds self.old (owned_as (owner_kept claimant) blocks.now) self.new }
+        ensures listed { Adds self.old (owned_as (owner_kept claimant) blocks.now) self.new }
         ensures few { AddsFew self.old 768 self.new }
     {
         for block in blocks {
@@ -133,7 +133,7 @@ impl OwnerTable {
     /// Adds an owner of the blocks of the way from a pair, if there is one.
     fn claim_way(&mut self, image: &Image, pair: Option<(u8, u8)>, claimant: Claimant)
         requires { CountsUpTo 50000000 self.old }
-        ensures told { Adds self.old (owned_as (owner_kept claimant) (blocks_from image.now pair)) self.new }
+        ensures listed { Adds self.old (owned_as (owner_kept claimant) (blocks_from image.now pair)) self.new }
         ensures few { AddsFew self.old 768 self.new }
     {
         match pair {
@@ -150,7 +150,7 @@ impl OwnerTable {
     fn claim_file(&mut self, image: &Image, entry: &Entry)
         requires room { CountsUpTo 40000000 self.old }
         requires slot { entry.now.slot < 8 * BLOCKS }
-        ensures told { Adds self.old (slot_owners image.now (entry.now.slot, entry.now.bytes)) self.new }
+        ensures listed { Adds self.old (slot_owners image.now (entry.now.slot, entry.now.bytes)) self.new }
         ensures few { AddsFew self.old 1536 self.new }
     {
         let slot = entry.slot().place() as u16;

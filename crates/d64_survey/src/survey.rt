@@ -3,7 +3,7 @@ ghost use Rattle.std.specs.Prelude.{◌≡◌, ◌*◌, ◌≤◌, length, optio
 ghost use Rattle.d64_image.specs.declared.block.TheConstants.{BLOCKS};
 ghost use Rattle.d64_files.specs.Directory.{entries, entry_of};
 ghost use Rattle.d64_survey.specs.Owners.{directory_way, way_slots, slot_name, is_owned, is_shared};
-ghost use Rattle.d64_survey.specs.OwnerTables.{TellsOwners};
+ghost use Rattle.d64_survey.specs.OwnerTables.{RecordsOwners};
 ghost use Rattle.d64_survey.specs.Inspection.{slot_cell};
 
 use crate::owner_table::{Claimant, OwnerTable};
@@ -30,14 +30,14 @@ impl<'a> Model for Survey<'a> {
     ghost use Rattle.std.specs.Prelude.{◌≡◌, ℕ, List};
     ghost use Rattle.d64_files.specs.Chain.{LieIn};
     ghost use Rattle.d64_survey.specs.Owners.{directory_way};
-    ghost use Rattle.d64_survey.specs.OwnerTables.{TellsOwners};
+    ghost use Rattle.d64_survey.specs.OwnerTables.{RecordsOwners};
 
     ghost Value = { List (List ℕ) };
 
     ghost view = { λ survey. survey.image.now };
 
     ghost invariant = { λ survey. (survey.directory ≡ (directory_way survey.image.now).0) × (survey.end ≡ (directory_way survey.image.now).1)
-        × LieIn survey.image.now survey.directory × TellsOwners survey.image.now survey.owners };
+        × LieIn survey.image.now survey.directory × RecordsOwners survey.image.now survey.owners };
 }
 
 impl<'a> Survey<'a> {
@@ -129,7 +129,7 @@ impl<'a> Survey<'a> {
 
     /// The table of the owners of all blocks.
     pub(crate) fn table(&self) -> &OwnerTable
-        ensures { TellsOwners self.now result.now }
+        ensures { RecordsOwners self.now result.now }
     {
         &self.owners
     }

@@ -3,7 +3,7 @@ ghost use Rattle.std.specs.Prelude.{◌≡◌, ℕ, Option, None, option_map};
 ghost use Rattle.d64_survey.specs.Way.{block_at};
 ghost use Rattle.d64_survey.specs.Faults.{last_of};
 ghost use Rattle.d64_survey.specs.Flaws.{any_shared, any_unreadable};
-ghost use Rattle.d64_survey.specs.WayFacts.{way_facts, noted_way, TellsWays};
+ghost use Rattle.d64_survey.specs.WayFacts.{way_facts, noted_way, RecordsWays};
 
 use crate::dump::is_read_error;
 use crate::fault::LastBlock;
@@ -96,7 +96,7 @@ impl WayTable {
     /// What the ways of all slots of a survey show, by the dump's read codes, if it has any. It
     /// walks the way from a block once.
     pub(crate) fn of(survey: &Survey, codes: Option<&[u8]>) -> WayTable
-        ensures { TellsWays survey.now (option_map (λ codes. codes.now) codes.entry) result.ways }
+        ensures { RecordsWays survey.now (option_map (λ codes. codes.now) codes.entry) result.ways }
     {
         let mut ways = WayTable::empty();
         for entry in survey.slots() {
@@ -118,8 +118,8 @@ impl WayTable {
 
     /// Notes what the way from a pair shows, if there is a pair whose way isn't noted yet.
     fn note(&mut self, survey: &Survey, codes: Option<&[u8]>, pair: Option<(u8, u8)>)
-        requires { TellsWays survey.now (option_map (λ codes. codes.now) codes) self.old.ways }
-        ensures { TellsWays survey.now (option_map (λ codes. codes.now) codes.entry) self.new.ways }
+        requires { RecordsWays survey.now (option_map (λ codes. codes.now) codes) self.old.ways }
+        ensures { RecordsWays survey.now (option_map (λ codes. codes.now) codes.entry) self.new.ways }
     {
         match pair {
             Some((track, sector)) => self.note_from(survey, codes, track, sector),
@@ -130,8 +130,8 @@ impl WayTable {
     /// Notes what the way from a track and a sector shows, if the image has such a block whose way
     /// isn't noted yet.
     fn note_from(&mut self, survey: &Survey, codes: Option<&[u8]>, track: u8, sector: u8)
-        requires { TellsWays survey.now (option_map (λ codes. codes.now) codes) self.old.ways }
-        ensures { TellsWays survey.now (option_map (λ codes. codes.now) codes.entry) self.new.ways }
+        requires { RecordsWays survey.now (option_map (λ codes. codes.now) codes) self.old.ways }
+        ensures { RecordsWays survey.now (option_map (λ codes. codes.now) codes.entry) self.new.ways }
     {
         match block_in(survey.image(), track, sector) {
             Some(block) => {
@@ -152,7 +152,7 @@ impl WayTable {
         track: u8,
         sector: u8,
     ) -> WayFacts
-        requires { TellsWays survey.now (option_map (λ codes. codes.now) codes) self.now.ways }
+        requires { RecordsWays survey.now (option_map (λ codes. codes.now) codes) self.now.ways }
         ensures { result ≡ way_facts survey.now (option_map (λ codes. codes.now) codes.entry) (track, sector) }
     {
         match self.noted(survey.image(), track, sector) {

@@ -19,7 +19,7 @@ use Rattle.d64_undo.specs.Records.{LeadAlong, AreRecords}
 use Rattle.d64_undo.specs.SessionFile.{magic, block_file, record_file, file_with, file_of, IsSession}
 use Rattle.d64_undo.specs.ResumeFault.{◌>>=◌, ReadPart, bytes_at, number_at, after_magic, block_count_at, image_at, counts_at, index_at, read_block_at, blocks_at, record_file_at, records_at, Parts, parts_at, all_differ, differ_along, session_at, fault_in}
 use Rattle.d64_undo.specs.declared.resume_fault.ResumeFault.{ResumeFault}
-use Rattle.d64_undo.specs.SessionFileLaws.{FilesTell, FilesAreFaultless}
+use Rattle.d64_undo.specs.SessionFileLaws.{FilesDecide, FilesAreFaultless}
 use Rattle.d64_undo.proofs.Leads.{IsRecord, Held, held, most}
 use Rattle.d64_undo.proofs.Sessions.{history_of}
 use Rattle.d64_undo.proofs.SessionFiles.{file-held}
@@ -196,14 +196,14 @@ pub faultless : FilesAreFaultless
 faultless history is = let h = held history is in ap fault_in (session_again history h.0 is h.1)
 
 -- the history of the parts of a file
-abbrev told : Result Parts ResumeFault → History
-told (Ok parts) = history_of parts.records parts.image parts.done
-told (Err fault) = history_of [] [] 0
+abbrev known : Result Parts ResumeFault → History
+known (Ok parts) = history_of parts.records parts.image parts.done
+known (Err fault) = history_of [] [] 0
 
 -- and so the history is read again from its file
-again : (history : History) → IsSession history → told (session_at (file_of history)) ≡ history
-again history is = let h = held history is in ap told (session_again history h.0 is h.1) ∙ h.1.holds.is
+again : (history : History) → IsSession history → known (session_at (file_of history)) ≡ history
+again history is = let h = held history is in ap known (session_again history h.0 is h.1) ∙ h.1.holds.is
 
 -- bytes are the file of at most one history
-pub one_history : FilesTell
-one_history history other is also same = sym (again history is) ∙ ap (λ (bytes : List ℕ). told (session_at bytes)) same ∙ again other also
+pub one_history : FilesDecide
+one_history history other is also same = sym (again history is) ∙ ap (λ (bytes : List ℕ). known (session_at bytes)) same ∙ again other also

@@ -87,7 +87,7 @@ pub retraces : (history : History) (images : List (List (List ℕ))) (undos : �
 retraces history images undos h few =
     let all : History = added_all history images in
     let cursor = cursor-added_all images history in
-    let standing = IsHistory-added_all images history h in
+    let within = IsHistory-added_all images history h in
     record {
       can_undo = λ more. omega (arith, cursor-undone_by undos all);
       can_redo = λ redos more. omega (arith, cursor-retraced undos redos all, ap length (images-retraced undos redos all));

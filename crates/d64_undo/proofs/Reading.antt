@@ -22,8 +22,8 @@ fails_then BadRecord reading next e = ap (λ (r : Result _ ResumeFault). r >>= n
 fails_then (Memory error) reading next e = tt
 
 -- and is the result
-pub fails_out : {A : Type 0} (fault answered : ResumeFault) (reading : Result A ResumeFault) → answered ≡ fault → Fails fault reading → Fails answered reading
-fails_out fault answered reading e f = subst (λ (x : ResumeFault). Fails x reading) (sym e) f
+pub fails_out : {A : Type 0} (fault decided : ResumeFault) (reading : Result A ResumeFault) → decided ≡ fault → Fails fault reading → Fails decided reading
+fails_out fault decided reading e f = subst (λ (x : ResumeFault). Fails x reading) (sym e) f
 
 -- one byte more of the beginning
 magic_step : (start : List ℕ) (i first : ℕ) (rest after : List ℕ) → i < length start → rest ≡ first ∷ after

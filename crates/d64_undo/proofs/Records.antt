@@ -167,21 +167,21 @@ turned b = record { there = b.here; here = b.there; is_patch = b.is_exchanged; i
 
 -- a list of records with a record in its place, those before it, the last one first, and those
 -- after it
-record StandsBetween (records : List Kept) (n : ℕ) (patch : Kept) (earlier later : List Kept) : Type 0 where
+record LiesBetween (records : List Kept) (n : ℕ) (patch : Kept) (earlier later : List Kept) : Type 0 where
   pub before : past records n ≡ earlier
   pub with_it : past records (n + 1) ≡ patch ∷ earlier
   pub from_it : drop n records ≡ patch ∷ later
   pub after : drop (n + 1) records ≡ later
 
-stands-between : (records : List Kept) (n : ℕ) (patch : Kept) → n < length records → patch ≡ get_or records n patch
-    → StandsBetween records n patch (past records n) (drop (n + 1) records)
-stands-between records n patch h is = record { before = refl; with_it = past-more records n patch h is; from_it = rest-more records n patch h is; after = refl }
+lies-between : (records : List Kept) (n : ℕ) (patch : Kept) → n < length records → patch ≡ get_or records n patch
+    → LiesBetween records n patch (past records n) (drop (n + 1) records)
+lies-between records n patch h is = record { before = refl; with_it = past-more records n patch h is; from_it = rest-more records n patch h is; after = refl }
 
 -- another record in that place leaves those before it and after it
-stands-set : (records : List Kept) (n : ℕ) (exchanged : Kept) → n < length records
-    → StandsBetween (set records n exchanged) n exchanged (past records n) (drop (n + 1) records)
+lies-set : (records : List Kept) (n : ℕ) (exchanged : Kept) → n < length records
+    → LiesBetween (set records n exchanged) n exchanged (past records n) (drop (n + 1) records)
 unfolding past
-stands-set records n exchanged h = record {
+lies-set records n exchanged h = record {
   before = ap reverse (take-set records n exchanged);
   with_it = ap reverse (take_more_set records n exchanged h) ∙ reverse-push (take n records) exchanged;
   from_it = drop-set records n exchanged h;
@@ -203,18 +203,18 @@ same-images image other patch exchanged earlier later b =
     ∙ ap (λ (list : List (List (List ℕ))). list ++ image ∷ images_along image later) (sym (before-more earlier other image patch b.there))
 
 -- records with one replaced, which is on one side of the image or on the other
-images-after : {records : List Kept} {n : ℕ} {patch : Kept} {earlier later : List Kept} (image : List (List ℕ)) → StandsBetween records n patch earlier later
+images-after : {records : List Kept} {n : ℕ} {patch : Kept} {earlier later : List Kept} (image : List (List ℕ)) → LiesBetween records n patch earlier later
     → images_of records image n ≡ reverse (images_along image earlier) ++ image ∷ images_along image (patch ∷ later)
 unfolding images_of past
 images-after image s = ap₂ (λ (ps qs : List Kept). reverse (images_along image ps) ++ image ∷ images_along image qs) s.before s.from_it
 
-images-before : {records : List Kept} {n : ℕ} {patch : Kept} {earlier later : List Kept} (image : List (List ℕ)) → StandsBetween records n patch earlier later
+images-before : {records : List Kept} {n : ℕ} {patch : Kept} {earlier later : List Kept} (image : List (List ℕ)) → LiesBetween records n patch earlier later
     → images_of records image (n + 1) ≡ reverse (images_along image (patch ∷ earlier)) ++ image ∷ images_along image later
 unfolding images_of past
 images-before image s = ap₂ (λ (ps qs : List Kept). reverse (images_along image ps) ++ image ∷ images_along image qs) s.with_it s.after
 
 -- and whether they lead away from the image
-lead-after : {records : List Kept} {n : ℕ} {patch : Kept} {earlier later : List Kept} (image : List (List ℕ)) → StandsBetween records n patch earlier later
+lead-after : {records : List Kept} {n : ℕ} {patch : Kept} {earlier later : List Kept} (image : List (List ℕ)) → LiesBetween records n patch earlier later
     → AreRecords records image n ↔ (LeadAlong image earlier × LeadAlong image (patch ∷ later))
 unfolding AreRecords past
 lead-after image s = (
@@ -222,7 +222,7 @@ lead-after image s = (
   λ leads. (subst (LeadAlong image) (sym s.before) leads.0, subst (LeadAlong image) (sym s.from_it) leads.1),
 )
 
-lead-before : {records : List Kept} {n : ℕ} {patch : Kept} {earlier later : List Kept} (image : List (List ℕ)) → StandsBetween records n patch earlier later
+lead-before : {records : List Kept} {n : ℕ} {patch : Kept} {earlier later : List Kept} (image : List (List ℕ)) → LiesBetween records n patch earlier later
     → AreRecords records image (n + 1) ↔ (LeadAlong image (patch ∷ earlier) × LeadAlong image later)
 unfolding AreRecords past
 lead-before image s = (
@@ -238,7 +238,7 @@ IsBeside n done cursor = ((done ≡ n + 1) × (cursor ≡ n)) ⊎ ((done ≡ n) 
 pub beside-differs : (records : List Kept) (image : List (List ℕ)) (n done cursor : ℕ) (patch : Kept) → n < length records → patch ≡ get_or records n patch
     → IsBeside n done cursor → AreRecords records image done → patch ≡ changed_blocks (restored_image image patch) image
 beside-differs records image n done cursor patch h is beside leads =
-    let s = stands-between records n patch h is in
+    let s = lies-between records n patch h is in
     elim beside [
       | inl back ↦ lead-head (past records n) image patch ((lead-before image s).0 (subst (AreRecords records image) back.0 leads)).0
       | inr on ↦ lead-head (drop (n + 1) records) image patch ((lead-after image s).0 (subst (AreRecords records image) on.0 leads)).1
@@ -250,8 +250,8 @@ pub images-stepped : (records : List Kept) (image other : List (List ℕ)) (n do
     → patch ≡ get_or records n patch → AreBetween image other patch exchanged → IsBeside n done cursor
     → images_of (set records n exchanged) other cursor ≡ images_of records image done
 images-stepped records image other n done cursor patch exchanged h is between beside =
-    let first = stands-between records n patch h is in
-    let second = stands-set records n exchanged h in
+    let first = lies-between records n patch h is in
+    let second = lies-set records n exchanged h in
     let kept = set records n exchanged in
     elim beside [
       | inl back ↦
@@ -269,8 +269,8 @@ pub records-stepped : (records : List Kept) (image other : List (List ℕ)) (n d
     → patch ≡ get_or records n patch → AreBetween image other patch exchanged → IsBeside n done cursor
     → AreRecords records image done → AreRecords (set records n exchanged) other cursor
 records-stepped records image other n done cursor patch exchanged h is between beside leads =
-    let first = stands-between records n patch h is in
-    let second = stands-set records n exchanged h in
+    let first = lies-between records n patch h is in
+    let second = lies-set records n exchanged h in
     elim beside [
       | inl back ↦
           let led = (lead-before image first).0 (subst (AreRecords records image) back.0 leads) in

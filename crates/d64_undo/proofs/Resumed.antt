@@ -103,14 +103,14 @@ only-memory (Memory error) e = refl
 
 -- what was kept is resumed
 pub kept-resumed : KeptIsResumed
-kept-resumed history (Ok session) is answer = one_history session history answer.session is answer.file
-kept-resumed history (Err fault) is answer =
-    only-memory fault (subst (λ (first : Option ResumeFault). reported_by fault first ≡ first) (faultless history is) answer.refused)
+kept-resumed history (Ok session) is outcome = one_history session history outcome.session is outcome.file
+kept-resumed history (Err fault) is outcome =
+    only-memory fault (subst (λ (first : Option ResumeFault). reported_by fault first ≡ first) (faultless history is) outcome.refused)
 
 -- the fault that was returned is the one that was found
-pub refused-by : {Answer Part : Type 0} (seen : Answer → Part) (result : Result Answer ResumeFault) (reading : Result Part ResumeFault)
+pub refused-by : {RequestOutcome Part : Type 0} (seen : RequestOutcome → Part) (result : Result RequestOutcome ResumeFault) (reading : Result Part ResumeFault)
     → Gives seen result reading → resume_refused_by result (fault_in reading) ≡ fault_in reading
-refused-by seen (Ok answer) reading e = sym (ap fault_in e)
+refused-by seen (Ok outcome) reading e = sym (ap fault_in e)
 refused-by seen (Err NotSession) reading e = sym (ap fault_in e)
 refused-by seen (Err Truncated) reading e = sym (ap fault_in e)
 refused-by seen (Err Trailing) reading e = sym (ap fault_in e)

@@ -14,7 +14,7 @@ use Rattle.d64_undo.specs.Records.{images_along, images_of, AreRecords}
 use Rattle.d64_undo.specs.SessionFile.{records_of, file_with, file_of, IsSession}
 use Rattle.d64_undo.proofs.Leads.{All-turned}
 use Rattle.d64_undo.proofs.Records.{length-images, record-done, record-undone}
-use Rattle.d64_undo.proofs.Sessions.{history_of, Holds, present_is, stands, image_count}
+use Rattle.d64_undo.proofs.Sessions.{history_of, Holds, present_is, lies, image_count}
 
 -- a record of the history is the one that the session holds
 record_blocks-held : (records : List Kept) (image : List (List ℕ)) (done n : ℕ) → done ≤ length records → n < length records
@@ -100,7 +100,7 @@ holds-session {records} {image} {done} {history} h most is_image blocks =
     (All-cons one image (images_along image (drop done records)) refl (images_along-kind (drop done records) image (length image) refl)) in
     let count = image_count h in
     record {
-      cursor = stands h;
+      cursor = lies h;
       images = subst (λ (other : History). All IsImage other.images) h.is images;
       kind =
           subst (λ (next : History). All (λ other. length other ≡ length (present_image next)) next.images) h.is

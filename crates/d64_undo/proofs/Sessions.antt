@@ -49,8 +49,8 @@ pub image_count : {records : List Kept} {image : List (List ℕ)} {done : ℕ} {
 image_count {records} {image} {done} {history} h =
     ap (λ (other : History). length other.images) (sym h.is) ∙ length-images records image done h.within
 
-pub stands : {records : List Kept} {image : List (List ℕ)} {done : ℕ} {history : History} → Holds records image done history → IsHistory history
-stands {records} {image} {done} {history} h =
+pub lies : {records : List Kept} {image : List (List ℕ)} {done : ℕ} {history : History} → Holds records image done history → IsHistory history
+lies {records} {image} {done} {history} h =
     let cursor = cursor-is h in
     let images = image_count h in
     let within = h.within in

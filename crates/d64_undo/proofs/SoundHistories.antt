@@ -6,8 +6,8 @@ use Rattle.d64_effects.specs.View.{IsSound}
 use Rattle.d64_undo.specs.History.{History, IsHistory, present_image, new_history, extended_history, undone_history, redone_history}
 use Rattle.d64_undo.specs.SoundHistory.{IsSoundHistory, HoldsSoundDisks, KeepsDisksSound}
 use Rattle.d64_undo.specs.Request.{Asked, Apply, Undo, Redo, Step}
-use Rattle.d64_undo.specs.declared.request.Answer.{Answer}
-use Rattle.d64_undo.specs.declared.request.Answer.TheVariants.{Accepted, Refused, Undone, Redone, NothingToUndo, NothingToRedo}
+use Rattle.d64_undo.specs.declared.request.RequestOutcome.{RequestOutcome}
+use Rattle.d64_undo.specs.declared.request.RequestOutcome.TheVariants.{Accepted, Refused, Undone, Redone, NothingToUndo, NothingToRedo}
 use Rattle.d64_undo.proofs.Histories.{IsHistory-extended_history}
 use Rattle.d64_image.specs.Image.{IsImage}
 use Rattle.d64_dos.specs.Command.{image_after}
@@ -38,7 +38,7 @@ moved-sound history other same all = subst (All IsSound) (sym same) all
 -- a history of sound disks holds one more
 holds-extended_history : (history : History) (image : List (List ℕ)) → IsImage image → IsSound image → HoldsSoundDisks history → HoldsSoundDisks (extended_history history image)
 holds-extended_history history image is sound holds = record {
-  stands = IsHistory-extended_history history image holds.stands;
+  is_history = IsHistory-extended_history history image holds.is_history;
   are_images = All-append IsImage (take (history.cursor + 1) history.images) (image ∷ []) (All-take IsImage (history.cursor + 1) history.images holds.are_images)
       (All-cons IsImage image [] is (All-nil IsImage));
   sound = extended_history-sound history image holds.sound sound;
@@ -46,18 +46,18 @@ holds-extended_history history image is sound holds = record {
 
 -- and stays one under another cursor
 holds-moved : (history other : History) → other.images ≡ history.images → other.cursor < length history.images → HoldsSoundDisks history → HoldsSoundDisks other
-holds-moved history other same stands holds = record {
-  stands = subst (λ (images : List (List (List ℕ))). other.cursor < length images) (sym same) stands;
+holds-moved history other same lies holds = record {
+  is_history = subst (λ (images : List (List (List ℕ))). other.cursor < length images) (sym same) lies;
   are_images = subst (All IsImage) (sym same) holds.are_images;
   sound = moved-sound history other same holds.sound;
 }
 
 -- whatever the reply to a request that keeps disks sound, sound disks are left
-pub step-sound : (history : History) (request : Asked) (answer : Answer) (next : History)
-    → Step history request answer next → KeepsDisksSound request → HoldsSoundDisks history → HoldsSoundDisks next
+pub step-sound : (history : History) (request : Asked) (outcome : RequestOutcome) (next : History)
+    → Step history request outcome next → KeepsDisksSound request → HoldsSoundDisks history → HoldsSoundDisks next
 step-sound history (Apply change) (Accepted reply) next (none, same, is) (file, made) holds =
-    let image = All-get_or IsImage history.images history.cursor [] holds.stands holds.are_images in
-    let sound = present_image-sound history holds.stands holds.sound in
+    let image = All-get_or IsImage history.images history.cursor [] holds.is_history holds.are_images in
+    let sound = present_image-sound history holds.is_history holds.sound in
     let left = keeps_sound (present_image history) change image made none (starts_from_sound (present_image history) change file sound) in
     subst HoldsSoundDisks (sym is) (holds-extended_history history (image_after (present_image history) change) left.is_image left.sound holds)
 step-sound history (Apply change) (Refused refusal) next (cause, is) keeps holds = subst HoldsSoundDisks (sym is) holds
@@ -66,7 +66,7 @@ step-sound history (Apply change) Redone next never keeps holds = absurd never
 step-sound history (Apply change) NothingToUndo next never keeps holds = absurd never
 step-sound history (Apply change) NothingToRedo next never keeps holds = absurd never
 step-sound history Undo Undone next (some, is) keeps holds =
-    let stands = holds.stands in
+    let is_history = holds.is_history in
     subst HoldsSoundDisks (sym is) (holds-moved history (undone_history history) refl (omega arith) holds)
 step-sound history Undo NothingToUndo next (nothing, is) keeps holds = subst HoldsSoundDisks (sym is) holds
 step-sound history Undo (Accepted reply) next never keeps holds = absurd never

@@ -8,8 +8,8 @@ use Rattle.d64_dos.specs.Change.{Change, change_of}
 use Rattle.d64_dos.specs.declared.refusal.Refusal.TheVariants.{Memory}
 use Rattle.d64_undo.specs.declared.request.Request.{Request}
 use Rattle.d64_undo.specs.declared.request.Request.TheVariants as requests
-use Rattle.d64_undo.specs.declared.request.Answer.{Answer}
-use Rattle.d64_undo.specs.declared.request.Answer.TheVariants.{Accepted, Refused, Undone, Redone, NothingToUndo, NothingToRedo}
+use Rattle.d64_undo.specs.declared.request.RequestOutcome.{RequestOutcome}
+use Rattle.d64_undo.specs.declared.request.RequestOutcome.TheVariants.{Accepted, Refused, Undone, Redone, NothingToUndo, NothingToRedo}
 
 -- a request to a session
 pub data Asked : Type 0 where
@@ -32,7 +32,7 @@ IsAskedOf image Redo = Unit {0}
 
 -- a request, its reply, and the history before and after it; the only choice is that memory is out
 -- in place of an acceptance
-abbrev pub Step : History → Asked → Answer → History → Type 0
+abbrev pub Step : History → Asked → RequestOutcome → History → Type 0
 Step history (Apply change) (Accepted reply) next =
     (refusal_of (present_image history) change ≡ None)
     × (reply ≡ reply_to (present_image history) change)
@@ -43,26 +43,26 @@ Step history Undo Undone next = (0 < history.cursor) × (next ≡ undone_history
 Step history Undo NothingToUndo next = (history.cursor ≡ 0) × (next ≡ history)
 Step history Redo Redone next = (history.cursor + 1 < length history.images) × (next ≡ redone_history history)
 Step history Redo NothingToRedo next = (length history.images ≤ history.cursor + 1) × (next ≡ history)
-Step history request answer next = ⊥
+Step history request outcome next = ⊥
 
 -- requests, their replies in turn, and the history before and after them
-abbrev pub Run : History → List Asked → List Answer → History → Type 0
+abbrev pub Run : History → List Asked → List RequestOutcome → History → Type 0
 Run history [] [] next = next ≡ history
-Run history (request ∷ requests) (answer ∷ answers) next =
-    (between : History) × (Step history request answer between × Run between requests answers next)
-Run history requests answers next = ⊥
+Run history (request ∷ requests) (outcome ∷ outcomes) next =
+    (between : History) × (Step history request outcome between × Run between requests outcomes next)
+Run history requests outcomes next = ⊥
 
 -- memory was never out
-abbrev pub HasMemory : List Answer → Type 0
-HasMemory answers = All (λ answer. answer ≢ Refused Memory) answers
+abbrev pub HasMemory : List RequestOutcome → Type 0
+HasMemory outcomes = All (λ outcome. outcome ≢ Refused Memory) outcomes
 
 -- two runs of the same requests from the same history are the same if memory was never out
 abbrev pub MemoryAloneIsFree : Type 0
 MemoryAloneIsFree =
-    (history : History) (requests : List Asked) (answers others : List Answer) (next other : History)
-    → Run history requests answers next → Run history requests others other
-    → HasMemory answers → HasMemory others
-    → (answers ≡ others) × (next ≡ other)
+    (history : History) (requests : List Asked) (outcomes others : List RequestOutcome) (next other : History)
+    → Run history requests outcomes next → Run history requests others other
+    → HasMemory outcomes → HasMemory others
+    → (outcomes ≡ others) × (next ≡ other)
 
 -- if memory was out, the request is a command that could have been accepted, and the history is
 -- unchanged

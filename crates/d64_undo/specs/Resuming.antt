@@ -21,8 +21,8 @@ Fails BadRecord reading = reading ≡ Err BadRecord
 Fails (Memory error) reading = Unit {0}
 
 -- a result, as definitions see it, is what is read, unless memory was out
-abbrev pub Gives : {Answer Part : Type 0} → (Answer → Part) → Result Answer ResumeFault → Result Part ResumeFault → Type 0
-Gives seen (Ok answer) reading = reading ≡ Ok (seen answer)
+abbrev pub Gives : {RequestOutcome Part : Type 0} → (RequestOutcome → Part) → Result RequestOutcome ResumeFault → Result Part ResumeFault → Type 0
+Gives seen (Ok outcome) reading = reading ≡ Ok (seen outcome)
 Gives seen (Err fault) reading = Fails fault reading
 
 -- the bytes of a session file before its records

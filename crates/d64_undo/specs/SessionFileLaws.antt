@@ -7,8 +7,8 @@ use Rattle.d64_undo.specs.ResumeFault.{first_resume_fault, resume_fault_number, 
 use Rattle.d64_undo.specs.declared.resume_fault.ResumeFault.{ResumeFault}
 
 -- bytes are the file of at most one history
-abbrev pub FilesTell : Type 0
-FilesTell = (history other : History) → IsSession history → IsSession other → file_of history ≡ file_of other → history ≡ other
+abbrev pub FilesDecide : Type 0
+FilesDecide = (history other : History) → IsSession history → IsSession other → file_of history ≡ file_of other → history ≡ other
 
 -- the file of a history has no fault
 abbrev pub FilesAreFaultless : Type 0
@@ -20,10 +20,10 @@ FaultlessAreFiles =
     (bytes : Bytes) → All (λ byte. byte < 256) bytes → first_resume_fault bytes ≡ None → (history : History) × IsSession history × (file_of history ≡ bytes)
 
 -- what `resume` can return for some bytes
-pub record IsAnswer (bytes : Bytes) (answer : Result History ResumeFault) : Type 0 where
-  pub refused : resume_refused_by answer (first_resume_fault bytes) ≡ first_resume_fault bytes
-  pub file : IfOk answer (λ session. file_of session ≡ bytes)
-  pub session : IfOk answer IsSession
+pub record IsOutcome (bytes : Bytes) (outcome : Result History ResumeFault) : Type 0 where
+  pub refused : resume_refused_by outcome (first_resume_fault bytes) ≡ first_resume_fault bytes
+  pub file : IfOk outcome (λ session. file_of session ≡ bytes)
+  pub session : IfOk outcome IsSession
 
 -- the result is that history, or that memory is out
 abbrev pub IsOrMemory : History → Result History ResumeFault → Type 0
@@ -32,4 +32,4 @@ IsOrMemory history (Err fault) = resume_fault_number fault ≡ 6
 
 -- what was kept is resumed with the same history and cursor
 abbrev pub KeptIsResumed : Type 0
-KeptIsResumed = (history : History) (answer : Result History ResumeFault) → IsSession history → IsAnswer (file_of history) answer → IsOrMemory history answer
+KeptIsResumed = (history : History) (outcome : Result History ResumeFault) → IsSession history → IsOutcome (file_of history) outcome → IsOrMemory history outcome

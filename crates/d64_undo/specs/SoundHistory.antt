@@ -21,7 +21,7 @@ KeepsSound change (Err refusal) = Unit {0}
 
 -- a history of sound disks: its images are those of disks, and sound, and the cursor is at one
 pub record HoldsSoundDisks (history : History) : Type 0 where
-  pub stands : IsHistory history
+  pub is_history : IsHistory history
   pub are_images : All IsImage history.images
   pub sound : IsSoundHistory history
 

@@ -3,7 +3,7 @@
 //! A caller whose proof needs a law calls the function.
 ghost use Rattle.d64_undo.specs.HistoryLaws.{UndoAfterCommand, RedoAfterUndo, Retraced};
 ghost use Rattle.d64_undo.specs.Request.{MemoryAloneIsFree, MemoryForAcceptance};
-ghost use Rattle.d64_undo.specs.SessionFileLaws.{FilesTell, FilesAreFaultless, FaultlessAreFiles, KeptIsResumed};
+ghost use Rattle.d64_undo.specs.SessionFileLaws.{FilesDecide, FilesAreFaultless, FaultlessAreFiles, KeptIsResumed};
 
 /// Undo after an accepted command gives the image from before it.
 pub fn undo_after_command()
@@ -32,8 +32,8 @@ pub fn memory_for_acceptance()
 {}
 
 /// Bytes are the session file of at most one history.
-pub fn session_files_tell()
-    ensures { FilesTell }
+pub fn session_files_decide()
+    ensures { FilesDecide }
 {}
 
 /// The file of each history has no fault, and bytes without a fault are the file of a history.

@@ -76,7 +76,7 @@ pub(crate) fn lead_away(
 ) -> Result<bool, AllocError>
     requires done { done ≤ length records.now }
     requires records { All (IsPatchOf image.now) records.now }
-    ensures { IfOk result (λ answer. answer ≡ lead_both_ways image.now done records.now) }
+    ensures { IfOk result (λ outcome. outcome ≡ lead_both_ways image.now done records.now) }
 {
     let place = records.place_before(done);
     if !all_lead(image.try_clone(alloc)?, records, place, true) {

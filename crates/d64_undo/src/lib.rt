@@ -17,7 +17,7 @@ mod resuming;
 mod session;
 
 pub use from_reader::{SessionReadFault, resume_from};
-pub use request::{Answer, Request, run_all};
+pub use request::{Request, RequestOutcome, run_all};
 pub use resume_fault::ResumeFault;
 pub use resuming::{Resuming, resume};
 pub use session::{NothingToRedo, NothingToUndo, Session};

@@ -18,7 +18,7 @@ pub enum Request {
 
 /// The reply of a session to a request.
 #[derive(Clone, Copy, Debug, PartialEq, Eq)]
-pub enum Answer {
+pub enum RequestOutcome {
     Accepted(Reply),
     Refused(Refusal),
     Undone,
@@ -28,23 +28,23 @@ pub enum Answer {
 }
 
 /// Runs one request. Returns the reply.
-fn run_one(session: &mut Session, request: &Request) -> Answer
+fn run_one(session: &mut Session, request: &Request) -> RequestOutcome
     requires { IsAskedOf (present_image session.old) (asked_by request.now) }
     ensures step { Step session.old (asked_by request.now) result session.new }
     ensures kind { length (present_image session.new) ≡ length (present_image session.old) }
 {
     match request {
         Request::Apply(command) => match session.run(command) {
-            Ok(reply) => Answer::Accepted(reply),
-            Err(refusal) => Answer::Refused(refusal),
+            Ok(reply) => RequestOutcome::Accepted(reply),
+            Err(refusal) => RequestOutcome::Refused(refusal),
         },
         Request::Undo => match session.undo() {
-            Ok(()) => Answer::Undone,
-            Err(NothingToUndo) => Answer::NothingToUndo,
+            Ok(()) => RequestOutcome::Undone,
+            Err(NothingToUndo) => RequestOutcome::NothingToUndo,
         },
         Request::Redo => match session.redo() {
-            Ok(()) => Answer::Redone,
-            Err(NothingToRedo) => Answer::NothingToRedo,
+            Ok(()) => RequestOutcome::Redone,
+            Err(NothingToRedo) => RequestOutcome::NothingToRedo,
         },
     }
 }
@@ -55,14 +55,14 @@ pub fn run_all(
     alloc: Global,
     session: &mut Session,
     requests: &[Request],
-) -> Result<Vec<Answer>, AllocError>
+) -> Result<Vec<RequestOutcome>, AllocError>
     requires { All (λ request. IsAskedOf (present_image session.old) (asked_by request)) requests.now }
-    ensures ran { IfOk result (λ answers. Run session.old (map asked_by requests.now) answers.items session.new) }
+    ensures ran { IfOk result (λ outcomes. Run session.old (map asked_by requests.now) outcomes.items session.new) }
     ensures unchanged { OnErr result (session.new ≡ session.old) }
 {
-    let mut answers = Vec::with_capacity(alloc, requests.len())?;
+    let mut outcomes = Vec::with_capacity(alloc, requests.len())?;
     for request in requests {
-        answers.push(run_one(session, request)).unwrap();
+        outcomes.push(run_one(session, request)).unwrap();
     }
-    Ok(answers)
+    Ok(outcomes)
 }

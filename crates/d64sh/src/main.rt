@@ -46,20 +46,20 @@ fn start<'a, E: Write>(
     is_unread: &Cell<bool>,
     errors: &mut E,
 ) -> Result<u8, ProgramFault> {
-    let arguments = env::args(rt).map_err(fault_of_words)?;
-    let arguments: Vec<String> = arguments.skip(1).collect(rt.alloc())?;
-    let words: Vec<&str> = arguments
+    let arguments = env::args(rt).map_err(fault_of_arguments)?;
+    let owned: Vec<String> = arguments.skip(1).collect(rt.alloc())?;
+    let arguments: Vec<&str> = owned
         .iter()
-        .map(|word| word.as_str())
+        .map(|argument| argument.as_str())
         .collect(rt.alloc())?;
-    if rt.stdout().is_terminal() && asks_for_program(rt.alloc(), words.as_slice()) {
+    if rt.stdout().is_terminal() && asks_for_program(rt.alloc(), arguments.as_slice()) {
         let _ = OutputStream::new(errors).write(PROGRAM_AT_TERMINAL);
         return Ok(NOT_RUN);
     }
     let output = WithinLimit::new(rt, limit, StandardStream::Output, rt.stdout());
-    let is_marking = is_report(arguments.first());
+    let is_marking = is_report(owned.first());
     let output = Retrying(MarkingWriter::new(is_unread, is_marking, output));
-    run_program(rt, limit, line, output, errors, words.as_slice())
+    run_program(rt, limit, line, output, errors, arguments.as_slice())
 }
 
 /// Runs the program with these arguments on an output, the process's other streams and the files
@@ -70,7 +70,7 @@ fn run_program<'a, O: Write + Drop, E: Write>(
     line: &ProgressLine<HostRuntime>,
     output: O,
     errors: &mut E,
-    words: &[&str],
+    arguments: &[&str],
 ) -> Result<u8, ProgramFault> {
     let mut output = BufWriter::new(rt.alloc(), output).map_err(|_| ProgramFault::Memory)?;
     let mut input = Retrying(rt.stdin());
@@ -83,7 +83,14 @@ fn run_program<'a, O: Write + Drop, E: Write>(
     let hints = WithinLimit::new(rt, limit, StandardStream::Error, rt.stderr());
     let mut hints = Retrying(hints);
     let advisor_host = FolderHost::new(rt);
-    Ok(run_advised(rt, &mut hints, advisor_host, words, &mut console, &mut host))
+    Ok(run_advised(
+        rt,
+        &mut hints,
+        advisor_host,
+        arguments,
+        &mut console,
+        &mut host,
+    ))
 }
 
 /// Runs the program with these arguments on a console and a host, with an advisor if that may have
@@ -93,14 +100,14 @@ fn run_advised<A: Write, K: Host + Drop, R: Read, W: Write, F: Write, H: Host>(
     rt: &HostRuntime,
     hints: &mut A,
     advisor_host: K,
-    words: &[&str],
+    arguments: &[&str],
     console: &mut Console<'_, R, W, F>,
     host: &mut H,
 ) -> u8
     requires fresh { IsFresh console.old }
 {
-    if !may_explain(rt, words) {
-        return run_unadvised(rt.alloc(), words, console, host);
+    if !may_explain(rt, arguments) {
+        return run_unadvised(rt.alloc(), arguments, console, host);
     }
     let is_terminal = rt.stdin().is_terminal() && rt.stderr().is_terminal();
     let mut advisor = Advisor::new(rt.alloc(), is_terminal, hints, advisor_host);
@@ -111,24 +118,24 @@ fn run_advised<A: Write, K: Host + Drop, R: Read, W: Write, F: Write, H: Host>(
         alloc: rt.alloc(),
         observer: &mut advisor,
     };
-    let status = program.run(words, console, host);
+    let status = program.run(arguments, console, host);
     advisor.end_without_session();
     status
 }
 
 /// Whether an advisor may have something to explain: to a person at a terminal, or of lines for which
 /// an option asks, as `-c` and `-e` do.
-fn may_explain(rt: &HostRuntime, words: &[&str]) -> bool {
+fn may_explain(rt: &HostRuntime, arguments: &[&str]) -> bool {
     rt.stderr().is_terminal()
-        || words
+        || arguments
             .iter()
-            .any(|word| word.as_bytes().first() == Some(&b'-'))
+            .any(|argument| argument.as_bytes().first() == Some(&b'-'))
 }
 
 /// Runs the program with these arguments on a console and a host, and explains nothing.
 fn run_unadvised<R: Read, W: Write, F: Write, H: Host>(
     alloc: Global,
-    words: &[&str],
+    arguments: &[&str],
     console: &mut Console<'_, R, W, F>,
     host: &mut H,
 ) -> u8
@@ -139,14 +146,14 @@ fn run_unadvised<R: Read, W: Write, F: Write, H: Host>(
         alloc,
         observer: &mut nobody,
     };
-    program.run(words, console, host)
+    program.run(arguments, console, host)
 }
 
 /// Whether the arguments ask for a program on the output, as `crunch` writes it without `-o`; false
 /// if memory runs out as they are read.
-fn asks_for_program(alloc: Global, words: &[&str]) -> bool {
+fn asks_for_program(alloc: Global, arguments: &[&str]) -> bool {
     let mut named = Vec::new(alloc);
-    if named.push("d64sh").is_err() || named.extend_from_slice(words).is_err() {
+    if named.push("d64sh").is_err() || named.extend_from_slice(arguments).is_err() {
         return false;
     }
     job(alloc, named.as_slice()).is_ok_and(|job| is_for_program(&job))
@@ -169,7 +176,7 @@ fn is_report(argument: Option<&String>) -> bool {
 }
 
 /// Returns why the arguments cannot be had: memory ran out, or one of them is not UTF-8.
-fn fault_of_words(error: io::Error) -> ProgramFault {
+fn fault_of_arguments(error: io::Error) -> ProgramFault {
     match error.kind() {
         ErrorKind::OutOfMemory => ProgramFault::Memory,
         _ => ProgramFault::UnreadableWords,

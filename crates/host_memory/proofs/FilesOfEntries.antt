@@ -65,9 +65,9 @@ not_true : (test : Bool) → (test ≡ true → ⊥) → test ≡ false
 not_true true refuted = absurd (refuted refl)
 not_true false refuted = refl
 
-pub unnamed : {A : Type 0} (name : List ℕ) (key : String A) (answer : Bool) → answer ≡ false → (string_bytes key ≡ name → answer ≡ true) → is_named name key ≡ false
-unnamed name key answer is_false told =
-    not_true (is_named name key) (λ is. true≢false (sym (told (sym ((bytes_eq-Decides name (string_bytes key)).0 (sym (is_eq-slice_cmp name (string_bytes key)) ∙ is)))) ∙ is_false))
+pub unnamed : {A : Type 0} (name : List ℕ) (key : String A) (returned : Bool) → returned ≡ false → (string_bytes key ≡ name → returned ≡ true) → is_named name key ≡ false
+unnamed name key returned is_false known =
+    not_true (is_named name key) (λ is. true≢false (sym (known (sym ((bytes_eq-Decides name (string_bytes key)).0 (sym (is_eq-slice_cmp name (string_bytes key)) ∙ is)))) ∙ is_false))
 
 -- an entry among others is found, or one before it
 found_among : {A X : Type 0} (test : A → Bool) (before after : List (A × X)) (entry : A × X) → test entry.0 ≡ true → is_some (lookup test (before ++ entry ∷ after)) ≡ true

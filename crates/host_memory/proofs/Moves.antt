@@ -37,8 +37,8 @@ StripsText text name r = MatchOption r (FindsTextPrefix text name None) (λ rest
 
 pub stripped : (text name : List ℕ) (r : Option (Bor (List ℕ))) → StripsText text name r → (rest : Bor (List ℕ)) → r ≡ Some rest → name ≡ text ++ rest.now
 stripped text name r strips rest is =
-    let told = subst (StripsText text name) is strips in
-    told.1.1 ∙ ap (λ part. text ++ part) (sym told.2)
+    let known = subst (StripsText text name) is strips in
+    known.1.1 ∙ ap (λ part. text ++ part) (sym known.2)
 
 pub unstripped : (text name : List ℕ) (r : Option (Bor (List ℕ))) → StripsText text name r → r ≡ None → (rest : List ℕ) → name ≢ text ++ rest
 unstripped text name r strips is = subst (StripsText text name) is strips

@@ -3,7 +3,7 @@
 ghost use Rattle.std.specs.Prelude.{◌≡◌, ℕ, ◌+◌, ◌-◌, ◌↔◌, ◌++◌, [], None, Some, Ok, Err, MatchOption, true, OnOk, OnErr, IfOk, IfErr, IfSome, IsTrue, option_copied, unwrap_or, string_bytes};
 ghost use Rattle.std.specs.FinMap.{contains_key, empty, get, insert};
 ghost use Rattle.host_storage.specs.Folders.{folder_name, is_at, moved_name, with_stored_file, with_folder, with_more, with_moved, Looks, Makes, Extends, CountsMaking};
-ghost use Rattle.host_storage.specs.Host.{fetched_bytes, filled_bytes, opened_bytes, Fetches, Opens, Stores, CountsDevice, answered_fault, one_more_failure};
+ghost use Rattle.host_storage.specs.Host.{fetched_bytes, filled_bytes, opened_bytes, Fetches, Opens, Stores, CountsDevice, host_fault_of, one_more_failure};
 ghost use Rattle.host_storage.specs.Obstacles.{LooksFor, LooksToWrite, obstacle_at};
 ghost use Rattle.host_memory.specs.MemoryHost.{after_call, countdown_after, extending_refusal, fetch_refusal, files_of_entries, making_refusal, open_refusal, store_refusal};
 
@@ -207,9 +207,9 @@ impl Host for MemoryHost {
     ghost state = { λ host. record { files = Some host.files; failures = host.failures } };
 
     fn fetch(&mut self, alloc: Global, name: &str, limit: usize) -> Result<Vec<u8>, HostFault>
-        ensures refused { answered_fault result ≡ fetch_refusal self.old name.now limit }
+        ensures refused { host_fault_of result ≡ fetch_refusal self.old name.now limit }
         ensures after { self.new ≡ after_call self.old }
-        ensures answer { Fetches (Some self.old.files) name.now limit (fetched_bytes result) }
+        ensures returned { Fetches (Some self.old.files) name.now limit (fetched_bytes result) }
         ensures files_kept { Some self.new.files ≡ Some self.old.files }
         ensures counted { CountsDevice self.old.failures self.new.failures result }
     {
@@ -219,9 +219,9 @@ impl Host for MemoryHost {
     }
 
     fn fill(&mut self, name: &str, limit: usize, bytes: &mut Vec<u8>) -> Result<(), HostFault>
-        ensures refused { answered_fault result ≡ fetch_refusal self.old name.now limit }
+        ensures refused { host_fault_of result ≡ fetch_refusal self.old name.now limit }
         ensures after { self.new ≡ after_call self.old }
-        ensures answer { Fetches (Some self.old.files) name.now limit (filled_bytes result bytes.new) }
+        ensures returned { Fetches (Some self.old.files) name.now limit (filled_bytes result bytes.new) }
         ensures files_kept { Some self.new.files ≡ Some self.old.files }
         ensures counted { CountsDevice self.old.failures self.new.failures result }
     {
@@ -239,9 +239,9 @@ impl Host for MemoryHost {
     }
 
     fn open(&mut self, name: &str) -> Result<VecDeque<u8>, HostFault>
-        ensures refused { answered_fault result ≡ open_refusal self.old name.now }
+        ensures refused { host_fault_of result ≡ open_refusal self.old name.now }
         ensures after { self.new ≡ after_call self.old }
-        ensures answer { Opens (Some self.old.files) name.now (opened_bytes (λ file. Some file.items) result) }
+        ensures returned { Opens (Some self.old.files) name.now (opened_bytes (λ file. Some file.items) result) }
         ensures files_kept { Some self.new.files ≡ Some self.old.files }
         ensures counted { CountsDevice self.old.failures self.new.failures result }
     {
@@ -261,7 +261,7 @@ impl Host for MemoryHost {
     }
 
     fn store(&mut self, _alloc: Global, name: &str, bytes: &[u8]) -> Result<(), HostFault>
-        ensures refused { answered_fault result ≡ store_refusal self.old }
+        ensures refused { host_fault_of result ≡ store_refusal self.old }
         ensures accepted { OnOk result (self.new ≡ record (after_call self.old) { files = insert self.old.files name.now bytes.now }) }
         ensures unchanged { OnErr result (self.new ≡ after_call self.old) }
         ensures stored { Stores (Some self.old.files) name.now bytes.now result (Some self.new.files) }
@@ -276,7 +276,7 @@ impl Host for MemoryHost {
 
     fn is_there(&self, path: &str) -> bool
         ensures exactly { result ≡ is_at self.now.files path.now }
-        ensures answer { Looks (Some self.now.files) path.now result }
+        ensures returned { Looks (Some self.now.files) path.now result }
     {
         self.file(path).is_some() || self.has_folder(path)
     }

@@ -15,10 +15,10 @@ use Rattle.host_names.proofs.Tails.{each_tail, long_tail}
 
 -- a list that passes a test
 pub all_from_test : (P : ℕ → Type 0) (test : ℕ → Bool) → ((byte : ℕ) → test byte ≡ true → P byte) → (bytes : List ℕ) → list_all test bytes ≡ true → All P bytes
-all_from_test P test tells [] passes = All-nil P
-all_from_test P test tells (byte ∷ bytes) passes =
+all_from_test P test shows [] passes = All-nil P
+all_from_test P test shows (byte ∷ bytes) passes =
     let both = and_parts (test byte) (list_all test bytes) passes in
-    All-cons P byte bytes (tells byte both.0) (all_from_test P test tells bytes both.1)
+    All-cons P byte bytes (shows byte both.0) (all_from_test P test shows bytes both.1)
 
 -- whichever of two lists it is
 either : (P : ℕ → Type 0) (first : Bool) (one other : List ℕ) → All P one → All P other → All P (if first then one else other)

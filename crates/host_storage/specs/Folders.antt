@@ -17,7 +17,7 @@ is_at files path = contains_key files path || contains_key files (folder_name pa
 
 -- what a host can return for whether something is at a path
 abbrev pub Looks : Option Files → List ℕ → Bool → Type 0
-Looks files path answer = IfSome files (λ all. answer ≡ is_at all path)
+Looks files path returned = IfSome files (λ all. returned ≡ is_at all path)
 
 -- the files with one more folder
 abbrev pub with_folder : List ℕ → Files → Files
@@ -63,9 +63,9 @@ Extends path bytes files (Err Exists) after = ⊥
 -- the count of failures after such a call
 abbrev pub failures_after_making : {A : Type 0} → ℕ → Result A FolderFault → ℕ
 failures_after_making count (Err Device) = one_more_failure count
-failures_after_making count answer = count
+failures_after_making count returned = count
 
 -- the count of failures rises by one exactly if such a call returns the device's fault, up to its
 -- greatest value
 abbrev pub CountsMaking : {A : Type 0} → ℕ → ℕ → Result A FolderFault → Type 0
-CountsMaking before after answer = after ≡ failures_after_making before answer
+CountsMaking before after returned = after ≡ failures_after_making before returned

@@ -33,7 +33,7 @@ FetchesOf files name limit (Err (Memory error)) = ⊤
 
 -- what a fetch can return; if no files are exposed, success still has at most `limit` bytes
 abbrev pub Fetches : Option Files → List ℕ → ℕ → Result (List ℕ) HostFault → Type 0
-Fetches (Some files) name limit answer = FetchesOf files name limit answer
+Fetches (Some files) name limit returned = FetchesOf files name limit returned
 Fetches None name limit (Ok bytes) = length bytes ≤ limit
 Fetches None name limit (Err fault) = ⊤
 
@@ -53,8 +53,8 @@ OpensOf files name (Err (Memory error)) = ⊤
 
 -- what an opening can return: no file is too long for it
 abbrev pub Opens : Option Files → List ℕ → Result (Option (List ℕ)) HostFault → Type 0
-Opens (Some files) name answer = OpensOf files name answer
-Opens None name answer = answer ≢ Err TooLong
+Opens (Some files) name returned = OpensOf files name returned
+Opens None name returned = returned ≢ Err TooLong
 
 -- whether a fault can come whatever the files are
 abbrev pub IsOfDeviceOrMemory : HostFault → Type 0
@@ -76,16 +76,16 @@ one_more_failure count = min (count + 1) (2 ^ 64 - 1)
 -- the count after a call: only the device's fault adds one
 abbrev pub failures_after : {A : Type 0} → ℕ → Result A HostFault → ℕ
 failures_after count (Err Device) = one_more_failure count
-failures_after count answer = count
+failures_after count returned = count
 
 -- the count rises by one exactly for the device's fault, up to its greatest value
 abbrev pub CountsDevice : {A : Type 0} → ℕ → ℕ → Result A HostFault → Type 0
-CountsDevice before after answer = after ≡ failures_after before answer
+CountsDevice before after returned = after ≡ failures_after before returned
 
 -- the fault that a call returned, unless memory was out
-abbrev pub answered_fault : {A : Type 0} → Result A HostFault → Option HostFault
-answered_fault (Ok value) = None
-answered_fault (Err Missing) = Some Missing
-answered_fault (Err Device) = Some Device
-answered_fault (Err TooLong) = Some TooLong
-answered_fault (Err (Memory error)) = None
+abbrev pub host_fault_of : {A : Type 0} → Result A HostFault → Option HostFault
+host_fault_of (Ok value) = None
+host_fault_of (Err Missing) = Some Missing
+host_fault_of (Err Device) = Some Device
+host_fault_of (Err TooLong) = Some TooLong
+host_fault_of (Err (Memory error)) = None

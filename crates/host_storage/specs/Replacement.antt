@@ -30,7 +30,7 @@ discarded_place place = file_alone place.content
 
 -- the bytes under the name, if they are exposed
 abbrev pub exposed_content : Option ReplacedFile → Option (List ℕ)
-exposed_content place = option_map (λ told. told.content) place
+exposed_content place = option_map (λ known. known.content) place
 
 -- there is a new file, and all of it is on the disk
 abbrev pub IsReady : ReplacedFile → Type 0

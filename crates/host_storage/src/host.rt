@@ -101,7 +101,7 @@ pub trait Host {
     /// The bytes of the named file, at most `limit`. `Missing` comes if there is no such file,
     /// `TooLong` if it has more bytes, and otherwise only `Device` or `Memory`.
     fn fetch(&mut self, alloc: Global, name: &str, limit: usize) -> Result<Vec<u8>, HostFault>
-        ensures answer { Fetches (state self.old).files name.now limit (fetched_bytes result) }
+        ensures returned { Fetches (state self.old).files name.now limit (fetched_bytes result) }
         ensures files_kept { (state self.new).files ≡ (state self.old).files }
         ensures counted { CountsDevice (state self.old).failures (state self.new).failures result };
 
@@ -109,7 +109,7 @@ pub trait Host {
     /// enough. Errors come as from `fetch`, and a host may also refuse what could keep many files
     /// waiting, such as a named pipe. Then `bytes` has any content.
     fn fill(&mut self, name: &str, limit: usize, bytes: &mut Vec<u8>) -> Result<(), HostFault>
-        ensures answer { Fetches (state self.old).files name.now limit (filled_bytes result bytes.new) }
+        ensures returned { Fetches (state self.old).files name.now limit (filled_bytes result bytes.new) }
         ensures files_kept { (state self.new).files ≡ (state self.old).files }
         ensures counted { CountsDevice (state self.old).failures (state self.new).failures result };
 
@@ -117,7 +117,7 @@ pub trait Host {
     /// file, and otherwise only `Device` or `Memory`. The reads give the file's bytes, whatever
     /// happens to the host.
     fn open(&mut self, name: &str) -> Result<Self::File, HostFault>
-        ensures answer { Opens (state self.old).files name.now (opened_bytes Self.File.remaining result) }
+        ensures returned { Opens (state self.old).files name.now (opened_bytes Self.File.remaining result) }
         ensures files_kept { (state self.new).files ≡ (state self.old).files }
         ensures counted { CountsDevice (state self.old).failures (state self.new).failures result };
 
@@ -136,7 +136,7 @@ pub trait Host {
     /// Whether something is at this path: a file, a folder, or a link, also one that leads to
     /// nothing. It is false if the system does not say.
     fn is_there(&self, path: &str) -> bool
-        ensures answer { Looks (state self.now).files path.now result };
+        ensures returned { Looks (state self.now).files path.now result };
 
     /// What prevents the reading of the file at this path, as far as a look shows it. It gives the
     /// reason for a call that failed, and changes nothing.

@@ -31,7 +31,7 @@ pub use draft::{Draft, replace_by};
 pub use folder_host::FolderHost;
 pub use host::{FolderFault, Host, HostFault, Obstacle, WriteObstacle};
 pub use input::{INPUT_BYTES, INPUT_READS, InputStream, READ_BYTES};
-pub use output::{OutputStream, WriteFault, write_answer};
+pub use output::{OutputStream, WriteFault, write_bytes};
 pub use retrying::Retrying;
 pub use shown::{hide_in_json, push_shown};
 pub use size_limit::SizeLimit;

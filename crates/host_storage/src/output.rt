@@ -53,7 +53,7 @@ impl<'w, W: Write> OutputStream<'w, W> {
         ensures either { Writes (account_of (W.contents self.old.writer.now) self.old.has_failed) (account_of (W.contents self.new.writer.now) self.new.has_failed) bytes.now }
     {
         self.is_delivered = false;
-        match write_answer(self.writer, bytes) {
+        match write_bytes(self.writer, bytes) {
             Ok(()) => Ok(()),
             Err(fault) => {
                 self.has_failed = true;
@@ -83,7 +83,7 @@ impl<'w, W: Write> OutputStream<'w, W> {
 }
 
 /// Writes all of the bytes. If a write fails or writes nothing, a first part of them was written.
-pub fn write_answer<W: Write>(writer: &mut W, bytes: &[u8]) -> Result<(), WriteFault>
+pub fn write_bytes<W: Write>(writer: &mut W, bytes: &[u8]) -> Result<(), WriteFault>
     ensures ok { OnOk result (Appends (W.contents writer.old) (W.contents writer.new) bytes.now) }
     ensures err { OnErr result (AppendsPart (W.contents writer.old) (W.contents writer.new) bytes.now) }
 {

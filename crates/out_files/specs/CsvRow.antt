@@ -60,5 +60,5 @@ abbrev pub name_alone : Bytes → List (List ℕ)
 name_alone name = host_field name ∷ [] ∷ [] ∷ [] ∷ [] ∷ [] ∷ [] ∷ [] ∷ [] ∷ [] ∷ [] ∷ [] ∷ [] ∷ [] ∷ [] ∷ [] ∷ [] ∷ [] ∷ [] ∷ []
 
 -- a row with a name and an error alone
-unfoldable pub unanswered_file_row : Leftovers → Bytes → List ℕ → List ℕ
-unanswered_file_row leftovers name error = row_with (name_alone name ++ leftover_blanks leftovers) error
+unfoldable pub failed_file_row : Leftovers → Bytes → List ℕ → List ℕ
+failed_file_row leftovers name error = row_with (name_alone name ++ leftover_blanks leftovers) error

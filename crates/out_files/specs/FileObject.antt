@@ -21,7 +21,7 @@ kind_value kind = option_map_or (λ kind. string (kind_letters kind)) kind null
 
 -- true or false; null if it is not known
 abbrev pub boolean_or_null : Option Bool → Json
-boolean_or_null answer = option_map_or (λ answer. boolean answer) answer null
+boolean_or_null truth = option_map_or (λ truth. boolean truth) truth null
 
 -- how many bytes a content has; null if there is no content
 abbrev pub bytes_value : Option Content → Json

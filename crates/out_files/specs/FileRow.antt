@@ -20,7 +20,7 @@ decimal_or_empty number = option_map_or decimal number []
 
 -- `true` or `false`; empty if it is not known
 abbrev pub truth_or_empty : Option Bool → List ℕ
-truth_or_empty answer = option_map_or truth_text answer []
+truth_or_empty truth = option_map_or truth_text truth []
 
 -- a text with a space before it
 abbrev pub after_space : List ℕ → List ℕ

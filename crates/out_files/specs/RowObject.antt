@@ -7,7 +7,7 @@ use Rattle.d64_leftovers.specs.declared.row.ListedRow.{ListedRow}
 use Rattle.d64_leftovers.specs.declared.row.ListedRow.TheVariants.{File, Deleted, Orphan}
 use Rattle.program_arguments.specs.declared.jobs.Leftovers.{Leftovers}
 use Rattle.out_json_csv.specs.Values.{Field, object_of, numeral}
-use Rattle.out_json_csv.specs.Unanswered.{image_member}
+use Rattle.out_json_csv.specs.FailedDumps.{image_member}
 use Rattle.out_files.specs.FileObject.{file_members}
 use Rattle.out_files.specs.DeletedObject.{deleted_members}
 use Rattle.out_files.specs.OrphanObject.{orphan_members}

@@ -6,8 +6,8 @@ ghost use Rattle.out_files.specs.FileRow.{decimal_or_empty, truth_or_empty, name
 ghost use Rattle.out_files.specs.DeletedRow.{deleted_fields};
 ghost use Rattle.out_files.specs.OrphanRow.{orphan_fields};
 ghost use Rattle.out_json_csv.specs.Rows.{host_field};
-ghost use Rattle.out_files.specs.CsvRow.{place_fields, row_fields, leftover_texts, leftover_fields, csv_row, file_columns, file_header_row, name_alone, unanswered_file_row};
-ghost use Rattle.out_json_csv.specs.Unanswered.{no_dump_error};
+ghost use Rattle.out_files.specs.CsvRow.{place_fields, row_fields, leftover_texts, leftover_fields, csv_row, file_columns, file_header_row, name_alone, failed_file_row};
+ghost use Rattle.out_json_csv.specs.FailedDumps.{no_dump_error};
 
 use crate::deleted_field::push_deleted_fields;
 use crate::orphan_field::push_orphan_fields;
@@ -89,11 +89,11 @@ fn push_record(line: &mut CsvRow, length: Option<u8>) -> Result<(), AllocError>
 }
 
 /// Appends `true`, `false`, or an empty field to a row.
-pub(crate) fn push_answer(line: &mut CsvRow, answer: Option<bool>) -> Result<(), AllocError>
-    ensures { OnOk result (line.new ≡ line.old ++ truth_or_empty answer ∷ []) }
+pub(crate) fn push_truth(line: &mut CsvRow, truth: Option<bool>) -> Result<(), AllocError>
+    ensures { OnOk result (line.new ≡ line.old ++ truth_or_empty truth ∷ []) }
 {
-    match answer {
-        Some(answer) => line.push_boolean(answer),
+    match truth {
+        Some(truth) => line.push_boolean(truth),
         None => line.push_field(b""),
     }
 }
@@ -168,7 +168,7 @@ pub(crate) fn push_content(
 fn push_state(scratch: &mut Vec<u8>, line: &mut CsvRow, row: &FileRow) -> Result<(), AllocError>
     ensures { OnOk result (line.new ≡ line.old ++ file_state_fields row.now) }
 {
-    push_answer(line, row.whole)?;
+    push_truth(line, row.whole)?;
     spell_flaws(scratch, row.why.as_slice())?;
     line.push_field(scratch.as_slice())?;
     spell_numbers(scratch, row.conditions.as_slice())?;
@@ -331,14 +331,14 @@ pub fn begin_name_alone(scratch: &mut Scratch, name: &[u8]) -> Result<(), AllocE
 }
 
 /// Appends a row with only a name and an error.
-fn push_unanswered(
+fn push_failed(
     leftovers: Leftovers,
     scratch: &mut Scratch,
     name: &[u8],
     error: &[u8],
     out: Vec<u8>,
 ) -> Result<Vec<u8>, AllocError>
-    ensures { IfOk result (λ text. text.items ≡ out.items ++ unanswered_file_row leftovers name.now error.now) }
+    ensures { IfOk result (λ text. text.items ≡ out.items ++ failed_file_row leftovers name.now error.now) }
 {
     begin_name_alone(scratch, name)?;
     push_leftovers(leftovers, &mut scratch.row, b"", b"")?;
@@ -352,9 +352,9 @@ pub fn unread_file_csv(
     name: &[u8],
     out: Vec<u8>,
 ) -> Result<Vec<u8>, AllocError>
-    ensures { IfOk result (λ text. text.items ≡ out.items ++ unanswered_file_row leftovers name.now (codes "cannot be read")) }
+    ensures { IfOk result (λ text. text.items ≡ out.items ++ failed_file_row leftovers name.now (codes "cannot be read")) }
 {
-    push_unanswered(leftovers, scratch, name, UNREAD.as_bytes(), out)
+    push_failed(leftovers, scratch, name, UNREAD.as_bytes(), out)
 }
 
 /// Appends the row of a file with these bytes, which is not a dump, to a text.
@@ -365,9 +365,9 @@ pub fn no_dump_file_csv(
     bytes: &[u8],
     out: Vec<u8>,
 ) -> Result<Vec<u8>, AllocError>
-    ensures { IfOk result (λ text. text.items ≡ out.items ++ unanswered_file_row leftovers name.now (no_dump_error bytes.now)) }
+    ensures { IfOk result (λ text. text.items ≡ out.items ++ failed_file_row leftovers name.now (no_dump_error bytes.now)) }
 {
-    push_unanswered(
+    push_failed(
         leftovers,
         scratch,
         name,

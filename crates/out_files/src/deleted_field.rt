@@ -2,7 +2,7 @@
 ghost use Rattle.std.specs.Prelude.{◌≡◌, [], ◌++◌, OnOk};
 ghost use Rattle.out_files.specs.DeletedRow.{loss_fields, deleted_fields};
 
-use crate::csv_line::{push_answer, push_content, push_entry, push_names, push_type, push_ways};
+use crate::csv_line::{push_content, push_entry, push_names, push_truth, push_type, push_ways};
 use crate::spaced::spell_losses;
 use d64_leftovers::DeletedRow;
 use out_json_csv::CsvRow;
@@ -13,7 +13,7 @@ use std::alloc::AllocError;
 fn push_state(scratch: &mut Vec<u8>, line: &mut CsvRow, row: &DeletedRow) -> Result<(), AllocError>
     ensures { OnOk result (line.new ≡ line.old ++ loss_fields row.now) }
 {
-    push_answer(line, Some(row.losses.is_empty()))?;
+    push_truth(line, Some(row.losses.is_empty()))?;
     spell_losses(scratch, row.losses.as_slice())?;
     line.push_field(scratch.as_slice())?;
     line.push_field(b"")?;

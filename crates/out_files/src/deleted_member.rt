@@ -4,7 +4,7 @@ ghost use Rattle.out_json_csv.specs.Values.{Prints, PrintsMembers, array_of};
 ghost use Rattle.out_files.specs.DeletedObject.{loss_value, loss_members, deleted_members};
 
 use crate::file_member::{
-    put_answer, put_conditions, put_content, put_entry, put_names, put_type, put_ways,
+    put_conditions, put_content, put_entry, put_names, put_truth, put_type, put_ways,
 };
 use crate::loss_word::loss_word;
 use d64_leftovers::DeletedRow;
@@ -37,7 +37,7 @@ fn put_why(writer: &mut Writer, losses: &[Loss]) -> Result<(), AllocError>
 fn put_state(writer: &mut Writer, row: &DeletedRow) -> Result<(), AllocError>
     ensures { PrintsMembers result writer.old writer.new (loss_members row.now) }
 {
-    put_answer(writer, "whole", Some(row.losses.is_empty()))?;
+    put_truth(writer, "whole", Some(row.losses.is_empty()))?;
     put_why(writer, row.losses.as_slice())?;
     put_conditions(writer, &[])?;
     put_number(writer, "read_errors", row.read_errors as u64)

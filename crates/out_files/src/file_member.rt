@@ -62,15 +62,15 @@ fn put_record(writer: &mut Writer, key: &str, length: Option<u8>) -> Result<(), 
 }
 
 /// Prints true, false, or null.
-pub(crate) fn put_answer(
+pub(crate) fn put_truth(
     writer: &mut Writer,
     key: &str,
-    answer: Option<bool>,
+    truth: Option<bool>,
 ) -> Result<(), AllocError>
-    ensures { PrintsMembers result writer.old writer.new ((key.now, boolean_or_null answer) ∷ []) }
+    ensures { PrintsMembers result writer.old writer.new ((key.now, boolean_or_null truth) ∷ []) }
 {
-    match answer {
-        Some(answer) => put_boolean(writer, key, answer),
+    match truth {
+        Some(truth) => put_boolean(writer, key, truth),
         None => put_null(writer, key),
     }
 }
@@ -182,7 +182,7 @@ pub(crate) fn put_conditions(writer: &mut Writer, numbers: &[u8]) -> Result<(), 
 fn put_state(writer: &mut Writer, row: &FileRow) -> Result<(), AllocError>
     ensures { PrintsMembers result writer.old writer.new (file_state_members row.now) }
 {
-    put_answer(writer, "whole", row.whole)?;
+    put_truth(writer, "whole", row.whole)?;
     put_why(writer, row.why.as_slice())?;
     put_conditions(writer, row.conditions.as_slice())?;
     put_number(writer, "read_errors", row.read_errors as u64)

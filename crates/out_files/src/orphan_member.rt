@@ -3,7 +3,7 @@ ghost use Rattle.out_json_csv.specs.Values.{PrintsMembers};
 ghost use Rattle.out_files.specs.OrphanObject.{old_name_members, old_type_members, orphan_entry_members, orphan_state_members, orphan_members};
 
 use crate::file_member::{
-    put_answer, put_conditions, put_content, put_count, put_names, put_type, put_ways, put_why,
+    put_conditions, put_content, put_count, put_names, put_truth, put_type, put_ways, put_why,
 };
 use d64_leftovers::{OldSlot, OrphanRow};
 use json::Writer;
@@ -66,7 +66,7 @@ fn put_orphan_entry(writer: &mut Writer, row: &OrphanRow) -> Result<(), AllocErr
 fn put_orphan_state(writer: &mut Writer, row: &OrphanRow) -> Result<(), AllocError>
     ensures { PrintsMembers result writer.old writer.new (orphan_state_members row.now) }
 {
-    put_answer(writer, "whole", None)?;
+    put_truth(writer, "whole", None)?;
     put_why(writer, &[])?;
     put_conditions(writer, &[])?;
     put_number(writer, "read_errors", row.read_errors as u64)

@@ -1,5 +1,5 @@
 pub mod Values
 pub mod Pairs
 pub mod Names
-pub mod Unanswered
+pub mod FailedDumps
 pub mod Rows

@@ -3,6 +3,7 @@
 #![tactic(auto)]
 
 mod csv_row;
+mod failed_dump;
 mod field;
 mod hexadecimal;
 mod label;
@@ -10,14 +11,13 @@ mod member;
 mod name;
 mod pair_text;
 mod scratch;
-mod unanswered;
 
 pub use csv_row::{CsvRow, end_row};
+pub use failed_dump::{
+    IS_THERE, UNREAD, UNWRITTEN, WRONG_LENGTH, failed_json, into_line, no_dump_error, no_dump_json,
+    put_host_name, put_image, unread_json, wrong_length_json,
+};
 pub use label::put_label;
 pub use member::{put_boolean, put_hexadecimal, put_null, put_number, put_pair, put_text};
 pub use name::put_name;
 pub use scratch::Scratch;
-pub use unanswered::{
-    IS_THERE, UNREAD, UNWRITTEN, WRONG_LENGTH, into_line, no_dump_error, no_dump_json,
-    put_host_name, put_image, unanswered_json, unread_json, wrong_length_json,
-};

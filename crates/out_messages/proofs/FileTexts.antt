@@ -10,13 +10,13 @@ pub flaw_more : (shown there place : ℕ) (before between after whole : List ℕ
     → place ≡ i → i < length flaws → between ≡ before ++ comma place → after ≡ between ++ flaw_text shown there (get_or flaws i d)
     → before ++ flaws_from shown there i (drop i flaws) ≡ whole → after ++ flaws_from shown there (i + 1) (drop (i + 1) flaws) ≡ whole
 unfolding flaws_from
-flaw_more shown there place before between after whole flaws i d here within apart told so =
+flaw_more shown there place before between after whole flaws i d here within apart known so =
     let flaw = get_or flaws i d in
     let left = flaws_from shown there (i + 1) (drop (i + 1) flaws) in
     let step : flaws_from shown there i (drop i flaws) ≡ comma i ++ (flaw_text shown there flaw ++ left) =
     ap (flaws_from shown there i) (drop-cons flaws i d within)
     ∙ ap (λ (n : ℕ). comma i ++ (flaw_text shown there flaw ++ flaws_from shown there n (drop n flaws))) (sym (add-one i)) in
-    ap (λ (text : List ℕ). text ++ left) told
+    ap (λ (text : List ℕ). text ++ left) known
     ∙ append_assoc between (flaw_text shown there flaw) left
     ∙ ap (λ (text : List ℕ). text ++ (flaw_text shown there flaw ++ left)) apart
     ∙ append_assoc before (comma place) (flaw_text shown there flaw ++ left)

@@ -124,12 +124,12 @@ abbrev is_plainly_named : Shape → Bool
 is_plainly_named s = are_none s.aliases
 
 named_alone : (aliases : List Text) (name word : Text) → are_none aliases ≡ true → answers_to word (name, aliases) ≡ true → bytes_eq name word ≡ true
-named_alone [] name word alone answers = go (bytes_eq name word) answers
+named_alone [] name word alone met_by = go (bytes_eq name word) met_by
   where
     go : (t : Bool) → (t || false) ≡ true → t ≡ true
     go true e = refl
     go false e = e
-named_alone (alias ∷ aliases) name word alone answers = absurd (true≢false (sym alone))
+named_alone (alias ∷ aliases) name word alone met_by = absurd (true≢false (sym alone))
 
 -- the subcommand that is entered is not the one for help, if the walk stopped at another
 entered_elsewhere : (subs : List Shape) → list_all is_plainly_named subs ≡ true → (stop : Option (Text × List Text)) → IsElsewhere stop → (met : Met)
@@ -142,8 +142,8 @@ entered_elsewhere subs plainly (Some p) is met e = go (find (λ s. answers_to p.
     go None at e = absurd (none≢some met e)
     go (Some s) at e =
         let alone = found_all (λ v. answers_to p.0 (label_of v)) is_plainly_named subs s plainly at in
-        let answers = found_passes (λ v. answers_to p.0 (label_of v)) subs s at in
-        let same : s.name ≡ p.0 = (bytes_eq-Decides s.name p.0).0 (named_alone s.aliases s.name p.0 alone answers) in
+        let met_by = found_passes (λ v. answers_to p.0 (label_of v)) subs s at in
+        let same : s.name ≡ p.0 = (bytes_eq-Decides s.name p.0).0 (named_alone s.aliases s.name p.0 alone met_by) in
         ap (λ name. bytes_eq name help) (ap (λ (m : Met). m.0) (sym (same_Some (rows_at s p.1) met e)) ∙ same) ∙ is
 
 plainly_named : list_all is_plainly_named (built d64sh).subs ≡ true

@@ -137,18 +137,18 @@ IsFaultOf met Dumps = (met.0 ≡ codes "merge") × IsSome (diff_form_given met) 
 -- the arguments are the program's, and ask neither for help nor for the version; and this holds of
 -- the subcommand that they name
 abbrev pub IsUse : List Text → (Met → Type 0) → Type 0
-IsUse words holds = (fault_of d64sh words ≡ []) × IsSomeAnd (subcommand_of d64sh words) holds
+IsUse arguments holds = (fault_of d64sh arguments ≡ []) × IsSomeAnd (subcommand_of d64sh arguments) holds
 
 -- the arguments ask for this job
 abbrev pub IsJob : List Text → Job → Type 0
-IsJob words job = IsUse words (λ met. IsJobOf met job)
+IsJob arguments job = IsUse arguments (λ met. IsJobOf met job)
 
 -- the arguments ask for no job, by this fault: an error of clap's, of one of the kinds that it has
 -- for these arguments; or a fault of what the subcommand is given
 abbrev pub IsFault : List Text → JobFault → Type 0
-IsFault words (Words error) = IsAmong (kind_of error) (fault_of d64sh words) × (kind_of error ≢ OutOfMemory)
-IsFault words Memory = ⊤
-IsFault words fault = IsUse words (λ met. IsFaultOf met fault)
+IsFault arguments (Words error) = IsAmong (kind_of error) (fault_of d64sh arguments) × (kind_of error ≢ OutOfMemory)
+IsFault arguments Memory = ⊤
+IsFault arguments fault = IsUse arguments (λ met. IsFaultOf met fault)
 
 -- the fault for an error of clap's: memory ran out, or the error itself
 abbrev pub IsReportedAs : Error → JobFault → Type 0
@@ -164,7 +164,7 @@ IsFaultOfKind kind fault = ⊥
 
 -- after the first of the arguments comes the name of this subcommand
 abbrev pub GoesOnWith : List Text → Subcommand → Type 0
-GoesOnWith words subcommand = (rest : List Text) × (drop 1 words ≡ name_for subcommand ∷ rest)
+GoesOnWith arguments subcommand = (rest : List Text) × (drop 1 arguments ≡ name_for subcommand ∷ rest)
 
 -- the fault is the help or the version that the arguments asked for
 abbrev pub IsHelpOrVersion : JobFault → Type 0

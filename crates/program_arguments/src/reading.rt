@@ -42,31 +42,31 @@ const ADDRESS_DIGITS: usize = 4;
 /// `--files-from`; `Picture` if the value of `--format` of `map` is neither `text` nor `svg`;
 /// `Difference` if the value of `--format` of `diff` is neither `text` nor `json`. `Memory` may
 /// come in place of any result.
-pub fn job(alloc: Global, words: &[&str]) -> Result<Job, JobFault>
-    ensures job { IfOk result (IsJob (map (λ word. word.now) words.now)) }
-    ensures fault { IfErr result (IsFault (map (λ word. word.now) words.now)) }
+pub fn job(alloc: Global, arguments: &[&str]) -> Result<Job, JobFault>
+    ensures job { IfOk result (IsJob (map (λ argument. argument.now) arguments.now)) }
+    ensures fault { IfErr result (IsFault (map (λ argument. argument.now) arguments.now)) }
 {
-    match named_by(words) {
-        Some(subcommand) => subcommand_job(alloc, words, subcommand),
-        None => program_job(alloc, words),
+    match named_by(arguments) {
+        Some(subcommand) => subcommand_job(alloc, arguments, subcommand),
+        None => program_job(alloc, arguments),
     }
 }
 
 /// Returns the subcommand with whose name the arguments begin, after the program's name.
-fn named_by(words: &[&str]) -> Option<Subcommand>
-    ensures { IfSome result (GoesOnWith (map (λ word. word.now) words.now)) }
+fn named_by(arguments: &[&str]) -> Option<Subcommand>
+    ensures { IfSome result (GoesOnWith (map (λ argument. argument.now) arguments.now)) }
 {
-    match words.get(1) {
+    match arguments.get(1) {
         Some(name) => Subcommand::named(name),
         None => None,
     }
 }
 
 /// Returns the arguments after the program's name.
-fn after_program<'a>(words: &'a [&'a str]) -> &'a [&'a str]
-    ensures { result.now ≡ drop 1 words.now }
+fn after_program<'a>(arguments: &'a [&'a str]) -> &'a [&'a str]
+    ensures { result.now ≡ drop 1 arguments.now }
 {
-    match words {
+    match arguments {
         [_, rest @ ..] => rest,
         [] => &[],
     }
@@ -75,27 +75,31 @@ fn after_program<'a>(words: &'a [&'a str]) -> &'a [&'a str]
 /// Does the same for arguments that begin with this subcommand. It makes of the arguments from its
 /// name on what `d64sh` makes of all arguments, and the options of the other subcommands are not
 /// made for it.
-fn subcommand_job(alloc: Global, words: &[&str], subcommand: Subcommand) -> Result<Job, JobFault>
-    requires { GoesOnWith (map (λ word. word.now) words.now) subcommand }
-    ensures job { IfOk result (IsJob (map (λ word. word.now) words.now)) }
-    ensures fault { IfErr result (IsFault (map (λ word. word.now) words.now)) }
+fn subcommand_job(
+    alloc: Global,
+    arguments: &[&str],
+    subcommand: Subcommand,
+) -> Result<Job, JobFault>
+    requires { GoesOnWith (map (λ argument. argument.now) arguments.now) subcommand }
+    ensures job { IfOk result (IsJob (map (λ argument. argument.now) arguments.now)) }
+    ensures fault { IfErr result (IsFault (map (λ argument. argument.now) arguments.now)) }
 {
     let command = subcommand.command(alloc)?;
-    match command.try_get_matches_from(after_program(words)) {
+    match command.try_get_matches_from(after_program(arguments)) {
         Ok(arguments) => subcommand.job(alloc, &arguments),
-        Err(error) => Err(explained(alloc, words, subcommand, error)),
+        Err(error) => Err(explained(alloc, arguments, subcommand, error)),
     }
 }
 
 /// Does the same for arguments that do not begin with a subcommand, which the command with all
 /// subcommands reads.
-fn program_job(alloc: Global, words: &[&str]) -> Result<Job, JobFault>
-    ensures job { IfOk result (IsJob (map (λ word. word.now) words.now)) }
-    ensures fault { IfErr result (IsFault (map (λ word. word.now) words.now)) }
+fn program_job(alloc: Global, arguments: &[&str]) -> Result<Job, JobFault>
+    ensures job { IfOk result (IsJob (map (λ argument. argument.now) arguments.now)) }
+    ensures fault { IfErr result (IsFault (map (λ argument. argument.now) arguments.now)) }
 {
-    let matches = match command::d64sh(alloc)?.try_get_matches_from(words) {
+    let matches = match command::d64sh(alloc)?.try_get_matches_from(arguments) {
         Ok(matches) => matches,
-        Err(error) => return Err(reported(with_tip(alloc, words, error))),
+        Err(error) => return Err(reported(with_tip(alloc, arguments, error))),
     };
     let Some((name, arguments)) = matches.subcommand() else {
         unreachable!()
@@ -108,13 +112,13 @@ fn program_job(alloc: Global, words: &[&str]) -> Result<Job, JobFault>
 
 /// Returns the fault for an error of a subcommand, with its usage if `clap` prints none, or with a
 /// tip if `shell` was probably meant otherwise.
-fn explained(alloc: Global, words: &[&str], subcommand: Subcommand, error: Error) -> JobFault
+fn explained(alloc: Global, arguments: &[&str], subcommand: Subcommand, error: Error) -> JobFault
     ensures { IsFaultOfKind (kind_of error) result }
 {
     if error.kind() == ErrorKind::InvalidValue {
         reported(with_usage(alloc, subcommand, error))
     } else {
-        reported(with_tip(alloc, words, error))
+        reported(with_tip(alloc, arguments, error))
     }
 }
 

@@ -25,30 +25,30 @@ struct Intent<'a> {
 }
 
 /// Whether an argument looks like the path of a file.
-fn is_path_like(word: &str) -> bool {
-    word.contains('.') || word.contains('/')
+fn is_path_like(argument: &str) -> bool {
+    argument.contains('.') || argument.contains('/')
 }
 
 /// Whether an argument is no option.
-fn is_plain(word: &str) -> bool {
-    !word.starts_with('-')
+fn is_plain(argument: &str) -> bool {
+    !argument.starts_with('-')
 }
 
 /// Returns what the arguments, of which the first is the program's name, probably mean if they are
 /// refused by an error of this kind.
-fn intent_of<'a>(words: &'a [&'a str], kind: ErrorKind) -> Option<Intent<'a>> {
+fn intent_of<'a>(arguments: &'a [&'a str], kind: ErrorKind) -> Option<Intent<'a>> {
     if kind == ErrorKind::InvalidSubcommand {
-        without_subcommand(words)
+        without_subcommand(arguments)
     } else if kind == ErrorKind::UnknownArgument {
-        without_option(words)
+        without_option(arguments)
     } else {
         None
     }
 }
 
 /// Returns what is meant if an image is in the place of the subcommand.
-fn without_subcommand<'a>(words: &'a [&'a str]) -> Option<Intent<'a>> {
-    match words {
+fn without_subcommand<'a>(arguments: &'a [&'a str]) -> Option<Intent<'a>> {
+    match arguments {
         [_, image, rest @ ..] if is_path_like(image) => Some(Intent {
             usage: USAGE,
             image,
@@ -59,8 +59,8 @@ fn without_subcommand<'a>(words: &'a [&'a str]) -> Option<Intent<'a>> {
 }
 
 /// Returns what is meant if a line follows the image of `shell`.
-fn without_option<'a>(words: &'a [&'a str]) -> Option<Intent<'a>> {
-    match words {
+fn without_option<'a>(arguments: &'a [&'a str]) -> Option<Intent<'a>> {
+    match arguments {
         [_, name, image, rest @ ..]
             if *name == Subcommand::Shell.name() && is_plain(image) && begins_plainly(rest) => {
             Some(Intent {
@@ -74,8 +74,8 @@ fn without_option<'a>(words: &'a [&'a str]) -> Option<Intent<'a>> {
 }
 
 /// Whether the first argument is there, and no option.
-fn begins_plainly(words: &[&str]) -> bool {
-    match words {
+fn begins_plainly(arguments: &[&str]) -> bool {
+    match arguments {
         [first, ..] => is_plain(first),
         [] => false,
     }
@@ -88,12 +88,12 @@ fn is_bare(byte: u8) -> bool {
 
 /// Appends an argument as a line for a shell of the host has it: between apostrophes unless all its
 /// bytes are bare, and cut if it is long.
-fn push_argument(tip: &mut String, word: &str) -> Result<(), AllocError> {
-    let is_quoted = word.is_empty() || !word.bytes().all(is_bare);
+fn push_argument(tip: &mut String, argument: &str) -> Result<(), AllocError> {
+    let is_quoted = argument.is_empty() || !argument.bytes().all(is_bare);
     if is_quoted {
         tip.push('\'')?;
     }
-    push_cut(tip, word)?;
+    push_cut(tip, argument)?;
     if is_quoted {
         tip.push('\'')?;
     }
@@ -101,8 +101,8 @@ fn push_argument(tip: &mut String, word: &str) -> Result<(), AllocError> {
 }
 
 /// Appends the first characters of an argument, and `..` if it has more.
-fn push_cut(tip: &mut String, word: &str) -> Result<(), AllocError> {
-    for (count, character) in word.chars().enumerate() {
+fn push_cut(tip: &mut String, argument: &str) -> Result<(), AllocError> {
+    for (count, character) in argument.chars().enumerate() {
         if count == SHOWN_CHARACTERS {
             return tip.push_str("..");
         }
@@ -113,16 +113,16 @@ fn push_cut(tip: &mut String, word: &str) -> Result<(), AllocError> {
 
 /// Returns the line that arguments probably mean, up to the first that is an option; `list` if
 /// there are none.
-fn line_of(alloc: Global, words: &[&str]) -> Result<String, AllocError> {
+fn line_of(alloc: Global, arguments: &[&str]) -> Result<String, AllocError> {
     let mut line = String::new(alloc);
-    for word in words {
-        if !is_plain(word) {
+    for argument in arguments {
+        if !is_plain(argument) {
             break;
         }
         if !line.is_empty() {
             line.push(' ')?;
         }
-        line.push_str(word)?;
+        line.push_str(argument)?;
     }
     if line.is_empty() {
         line.push_str("list")?;
@@ -149,10 +149,10 @@ fn push_tip(text: &mut String, image: &str, line: &str) -> Result<(), AllocError
 /// Returns the error of these arguments, of which the first is the program's name, with a tip if
 /// they probably mean the shell: an image in place of a subcommand, or a line after an image
 /// without `-c`.
-pub(crate) fn with_tip(alloc: Global, words: &[&str], error: Error) -> Result<Error, AllocError>
+pub(crate) fn with_tip(alloc: Global, arguments: &[&str], error: Error) -> Result<Error, AllocError>
     ensures { IfOk result (λ reported. kind_of reported ≡ kind_of error) }
 {
-    match intent_of(words, error.kind()) {
+    match intent_of(arguments, error.kind()) {
         Some(intent) => meant(alloc, intent, &error),
         None => Ok(error),
     }

@@ -21,7 +21,7 @@ pub fn report_no_job<W: Write, F: Write>(
 ) -> u8
     requires unfailed { outputs.old.output.has_failed ≡ false }
     ensures same { SameWriters outputs.old outputs.new }
-    ensures answered { ReportsNoJob fault (account_at W.contents outputs.old.output) (account_at W.contents outputs.new.output) (account_at F.contents outputs.old.faults) (account_at F.contents outputs.new.faults) result }
+    ensures reported { ReportsNoJob fault (account_at W.contents outputs.old.output) (account_at W.contents outputs.new.output) (account_at F.contents outputs.old.faults) (account_at F.contents outputs.new.faults) result }
     ensures silent { result ≡ 0 → outputs.new.faults ≡ outputs.old.faults }
     ensures delivered { result ≡ 0 → IsDelivered outputs.new.output }
 {

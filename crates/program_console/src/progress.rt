@@ -21,7 +21,7 @@ const PAUSE: u128 = 100;
 pub struct ProgressLine<'a, R> {
     rt: &'a R,
     is_wanted: bool,
-    told: Cell<Option<Instant>>,
+    shown: Cell<Option<Instant>>,
     is_shown: Cell<bool>,
 }
 
@@ -33,7 +33,7 @@ impl<'a, R: Clock + Eprint> ProgressLine<'a, R> {
         ProgressLine {
             rt,
             is_wanted,
-            told: Cell::new(None),
+            shown: Cell::new(None),
             is_shown: Cell::new(false),
         }
     }
@@ -49,13 +49,13 @@ impl<'a, R: Clock + Eprint> ProgressLine<'a, R> {
             let _ = eprint!(self.rt; "\r{done} {noun} done\x1b[K");
             self.is_shown.set(true);
         }
-        self.told.set(Instant::now(self.rt).ok());
+        self.shown.set(Instant::now(self.rt).ok());
     }
 
     /// Whether the last update is old enough, or there was none.
     fn is_due(&self) -> bool {
-        match self.told.get() {
-            Some(told) => match told.elapsed(self.rt) {
+        match self.shown.get() {
+            Some(shown) => match shown.elapsed(self.rt) {
                 Ok(passed) => passed.as_millis() >= PAUSE,
                 Err(_) => false,
             },

@@ -2,7 +2,7 @@
 use Rattle.std.proofs.Common.{◌≡◌, ℕ, true, List, [], ◌∷◌, ◌++◌, Result, Ok, Err, refl, sym, ap, ◌∙◌, subst, append_assoc}
 use Rattle.std.specs.Prelude.{OnOk}
 use Rattle.program_surveys.specs.Names.{Request, kept_name, requests_in, requests_of}
-use Rattle.program_surveys.specs.Answers.{Effects, KeepsQuiet}
+use Rattle.program_surveys.specs.FileOutcomes.{Effects, KeepsQuiet}
 use Rattle.program_surveys.specs.declared.list_batch.ListRun.{ListRun}
 use Rattle.program_surveys.specs.Runs.{RunState, Steps, Runs, StopsIn, EndsAt}
 use Rattle.program_surveys.specs.Lists.{HasComeTo, KeepsList, ListView, effects_of, list_state_of}
@@ -24,7 +24,7 @@ HasComeTo-none view run fresh delivered = record {
   keeps = KeepsList-none view run;
   delivered = (delivered, refl);
   held = fresh;
-  answered = subst (λ (l : List Request). Steps (effects_of view run) l (list_state_of view run) (list_state_of view run)) (sym requests_in-nil) (Steps-none (effects_of view run) (list_state_of view run));
+  processed = subst (λ (l : List Request). Steps (effects_of view run) l (list_state_of view run) (list_state_of view run)) (sym requests_in-nil) (Steps-none (effects_of view run) (list_state_of view run));
 }
 
 -- what stays the same stays so

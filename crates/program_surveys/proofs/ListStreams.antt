@@ -13,10 +13,10 @@ use Rattle.program_surveys.specs.declared.list_batch.ListRun.{ListRun}
 pub RunsStream-ended : {H C W F : Type 0} (view : ListView H C W F) (first now : ListRun H C W F) (separator : ℕ) (reader left : Option (List ℕ)) (has_failed : Bool) (result : Result (Unit {0}) StreamFault)
     → Ends (λ parts. EndsList view first now parts result) separator reader
     → RunsStream (effects_of view first) separator reader left has_failed (list_state_of view first) (list_state_of view now) result
-RunsStream-ended view first now separator reader left has_failed (Ok done) ends = record { input = ends.input; all = ends.all; here = ends.here.answered }
-RunsStream-ended view first now separator reader left has_failed (Err faults.Read) ends = absurd ends.here.answered.stopped
-RunsStream-ended view first now separator reader left has_failed (Err faults.Write) ends = record { input = ends.input; all = ends.all; here = ends.here.answered }
-RunsStream-ended view first now separator reader left has_failed (Err faults.Memory) ends = record { input = ends.input; all = ends.all; here = ends.here.answered }
+RunsStream-ended view first now separator reader left has_failed (Ok done) ends = record { input = ends.input; all = ends.all; here = ends.here.processed }
+RunsStream-ended view first now separator reader left has_failed (Err faults.Read) ends = absurd ends.here.processed.stopped
+RunsStream-ended view first now separator reader left has_failed (Err faults.Write) ends = record { input = ends.input; all = ends.all; here = ends.here.processed }
+RunsStream-ended view first now separator reader left has_failed (Err faults.Memory) ends = record { input = ends.input; all = ends.all; here = ends.here.processed }
 
 -- a list that cannot be read to its end
 pub LosesStream-by : {H C W F : Type 0} (view : ListView H C W F) (first now : ListRun H C W F) (separator : ℕ) (reader left : Option (List ℕ)) (has_failed : Bool)
@@ -27,11 +27,11 @@ LosesStream-by view first now separator reader left has_failed short = record {
   lost = short.lost;
   cause = short.cause;
   has_come = HasCome-same (HasComeTo view first now) (λ parts begun. Steps (effects_of view first) (requests_in parts) (list_state_of view first) (list_state_of view now)) separator _ short.has_come
-      (λ parts begun here. here.answered);
+      (λ parts begun here. here.processed);
 }
 
 -- a run ends with no fault of the list
 pub never_lost : {H C W F : Type 0} (view : ListView H C W F) (first now : ListRun H C W F) (parts : List (List ℕ)) (result : Result (Unit {0}) StreamFault)
     → EndsList view first now parts result → result ≡ Err faults.Read → ⊥
 never_lost view first now parts result ends is =
-    (subst (λ r. Runs (effects_of view first) (requests_in parts) (list_state_of view first) (list_state_of view now) r) is ends.answered).stopped
+    (subst (λ r. Runs (effects_of view first) (requests_in parts) (list_state_of view first) (list_state_of view now) r) is ends.processed).stopped

@@ -4,7 +4,7 @@ use Rattle.std.proofs.lemmas.Simd.{map-map}
 use Rattle.std.specs.Prelude.{MatchBool}
 use Rattle.host_storage.specs.Output.{Account}
 use Rattle.program_surveys.specs.Names.{Request, File}
-use Rattle.program_surveys.specs.Answers.{Effects}
+use Rattle.program_surveys.specs.FileOutcomes.{Effects}
 use Rattle.host_storage.specs.Files.{HostState}
 use Rattle.program_surveys.specs.Runs.{Begins, Runs, RunState, run_state, reported_of}
 use Rattle.program_surveys.specs.Lists.{RunsStream}

@@ -5,7 +5,7 @@ use Rattle.d64_image.specs.Disk.{Bytes}
 use Rattle.d64_g64.specs.DumpOf.{dump_of}
 use Rattle.host_storage.specs.Files.{HostState}
 use Rattle.out_json_csv.specs.Values.{line_of}
-use Rattle.out_json_csv.specs.Unanswered.{unread_object, no_dump_object}
+use Rattle.out_json_csv.specs.FailedDumps.{unread_object, no_dump_object}
 use Rattle.out_messages.specs.FaultLines.{unread_line, wrong_length_line}
 use Rattle.program_arguments.specs.declared.jobs.DiffForm.{DiffForm}
 use Rattle.program_arguments.specs.declared.jobs.DiffForm.TheVariants.{Text, Json}

@@ -4,7 +4,7 @@ use Rattle.host_storage.specs.Files.{Files}
 use Rattle.host_storage.specs.declared.host.HostFault.TheVariants.{Device}
 use Rattle.host_storage.specs.Output.{Account, Writes}
 use Rattle.out_messages.specs.FaultLines.{unread_line}
-use Rattle.program_surveys.specs.Answers.{Effects, status_of as verdict_status}
+use Rattle.program_surveys.specs.FileOutcomes.{Effects, status_of as verdict_status}
 use Rattle.program_surveys.specs.Runs.{RunState, Reported, run_state, reported_of}
 use Rattle.program_console.specs.Reasons.{IsReason, with_known_reason}
 use Rattle.program_console.specs.declared.reason.Reason.{Reason}

@@ -1,5 +1,5 @@
 pub mod Names
-pub mod Answers
+pub mod FileOutcomes
 pub mod Asked
 pub mod Runs
 pub mod Lists

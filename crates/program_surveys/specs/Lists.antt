@@ -3,7 +3,7 @@ use Rattle.std.specs.Prelude.{◌≡◌, ℕ, Bool, List, Option, Result, Ok, Er
 use Rattle.host_storage.specs.Files.{HostState}
 use Rattle.script_text.specs.Parts.{CutsShort, Ends}
 use Rattle.program_surveys.specs.Names.{kept_name, requests_in}
-use Rattle.program_surveys.specs.Answers.{Effects, KeepsQuiet}
+use Rattle.program_surveys.specs.FileOutcomes.{Effects, KeepsQuiet}
 use Rattle.program_surveys.specs.Runs.{RunState, Runs, Steps, StopsIn, run_state_at}
 use Rattle.program_console.specs.declared.stream_fault.StreamFault.{StreamFault}
 use Rattle.program_console.specs.declared.stream_fault.StreamFault.TheVariants as faults
@@ -12,8 +12,8 @@ use Rattle.program_surveys.specs.declared.list_batch.ListRun.{ListRun}
 use Rattle.program_surveys.specs.declared.report.Verdict.TheVariants.{Clean}
 
 -- the whole list was read, and all of its names are processed
-abbrev pub AnswersStream : Effects → ℕ → Option (List ℕ) → RunState → RunState → Type 0
-AnswersStream effects separator reader old new = Ends (λ parts. Steps effects (requests_in parts) old new) separator reader
+abbrev pub ProcessesStream : Effects → ℕ → Option (List ℕ) → RunState → RunState → Type 0
+ProcessesStream effects separator reader old new = Ends (λ parts. Steps effects (requests_in parts) old new) separator reader
 
 -- a list cannot be read to its end: the names that have ended within the limit are processed
 abbrev pub LosesStream : Effects → ℕ → Option (List ℕ) → Option (List ℕ) → Bool → RunState → RunState → Type 0
@@ -26,7 +26,7 @@ StopsInStream effects separator reader fault old new = Ends (λ parts. StopsIn e
 
 -- how a run over a list that is read as it comes ends; the flag says whether a read failed
 abbrev pub RunsStream : {A : Type 0} → Effects → ℕ → Option (List ℕ) → Option (List ℕ) → Bool → RunState → RunState → Result A StreamFault → Type 0
-RunsStream effects separator reader left has_failed old new (Ok done) = AnswersStream effects separator reader old new
+RunsStream effects separator reader left has_failed old new (Ok done) = ProcessesStream effects separator reader old new
 RunsStream effects separator reader left has_failed old new (Err faults.Read) = LosesStream effects separator reader left has_failed old new
 RunsStream effects separator reader left has_failed old new (Err faults.Write) = StopsInStream effects separator reader faults.Write old new
 RunsStream effects separator reader left has_failed old new (Err faults.Memory) = StopsInStream effects separator reader faults.Memory old new
@@ -73,10 +73,10 @@ pub record HasComeTo {H C W F : Type 0} (view : ListView H C W F) (first now : L
   pub keeps : KeepsList view first now
   pub delivered : Delivers first.outputs.now.output now.outputs.now.output
   pub held : now.list.now.name ≡ kept_name begun
-  pub answered : Steps (effects_of view first) (requests_in parts) (list_state_of view first) (list_state_of view now)
+  pub processed : Steps (effects_of view first) (requests_in parts) (list_state_of view first) (list_state_of view now)
 
 -- a run over a list of these parts has ended
 pub record EndsList {H C W F : Type 0} (view : ListView H C W F) (first now : ListRun H C W F) (parts : List (List ℕ)) (ended : Result (Unit {0}) StreamFault) : Type 0 where
   pub keeps : KeepsList view first now
   pub delivered : OnOk ended (Delivers first.outputs.now.output now.outputs.now.output)
-  pub answered : Runs (effects_of view first) (requests_in parts) (list_state_of view first) (list_state_of view now) ended
+  pub processed : Runs (effects_of view first) (requests_in parts) (list_state_of view first) (list_state_of view now) ended

@@ -12,7 +12,7 @@ use Rattle.program_console.specs.declared.console.Outputs.{Outputs}
 use Rattle.program_surveys.specs.Names.{Request, File, NoFile}
 use Rattle.program_console.specs.Reasons.{IsReason, with_known_reason}
 use Rattle.program_console.specs.declared.reason.Reason.{Reason}
-use Rattle.program_surveys.specs.Answers.{Answer, Effects, worse_verdict}
+use Rattle.program_surveys.specs.FileOutcomes.{FileOutcome, Effects, worse_verdict}
 use Rattle.program_surveys.specs.declared.report.Verdict.{Verdict}
 use Rattle.host_storage.specs.declared.output.WriteFault.{WriteFault}
 use Rattle.program_console.specs.declared.stream_fault.StreamFault.{StreamFault}
@@ -54,13 +54,13 @@ given_by (Err (Memory error)) = None
 
 -- a file was fetched from the host, whose files stay as they were
 abbrev pub IsFetched : List ℕ → HostState → Result (List ℕ) HostFault → HostState → Type 0
-IsFetched name old answer new =
-    Fetches old.files name input_limit answer × (new.files ≡ old.files) × CountsDevice old.failures new.failures answer
+IsFetched name old outcome new =
+    Fetches old.files name input_limit outcome × (new.files ≡ old.files) × CountsDevice old.failures new.failures outcome
 
 -- what was read for a task: the bytes of a file, or None if it cannot be read; for a name that
 -- cannot be a file's the host is left alone
 abbrev pub IsRead : Request → HostState → Option (List ℕ) → HostState → Type 0
-IsRead (File name) old bytes new = (answer : Result (List ℕ) HostFault) × IsFetched name old answer new × (given_by answer ≡ Some bytes)
+IsRead (File name) old bytes new = (outcome : Result (List ℕ) HostFault) × IsFetched name old outcome new × (given_by outcome ≡ Some bytes)
 IsRead (NoFile name reason) old bytes new = (bytes ≡ None) × (new ≡ old)
 
 -- why a file could not be read, as far as the host can say: no reason if it was read, the reason of
@@ -72,8 +72,8 @@ SaysWhy (File name) old None new reason =
 SaysWhy (NoFile name why) old None new reason = reason ≡ Some why
 
 -- a result with the reason, if one is known, behind the line for the standard error
-abbrev pub explained : Option Reason → Answer → Answer
-explained reason answer = record answer { complaint = with_known_reason reason answer.complaint }
+abbrev pub explained : Option Reason → FileOutcome → FileOutcome
+explained reason outcome = record outcome { complaint = with_known_reason reason outcome.complaint }
 
 -- how a name is shown
 abbrev pub shown_request : Request → List ℕ
@@ -82,23 +82,23 @@ shown_request (NoFile name reason) = name
 
 -- a result was written: all of it to the standard output, which was flushed, and to the standard
 -- error unless that failed; and its verdict counts
-pub record IsReported (answer : Answer) (old new : Reported) : Type 0 where
-  pub printed : Appends old.output.contents new.output.contents answer.printed
+pub record IsReported (outcome : FileOutcome) (old new : Reported) : Type 0 where
+  pub printed : Appends old.output.contents new.output.contents outcome.printed
   pub unfailed : new.output.has_failed ≡ old.output.has_failed
-  pub complained : Writes old.error new.error answer.complaint
-  pub worst : new.worst ≡ worse_verdict old.worst answer.verdict
+  pub complained : Writes old.error new.error outcome.complaint
+  pub worst : new.worst ≡ worse_verdict old.worst outcome.verdict
 
 -- the output failed, and has the first part of a result
-pub record IsCut (answer : Answer) (old new : Reported) : Type 0 where
-  pub part : AppendsPart old.output.contents new.output.contents answer.printed
+pub record IsCut (outcome : FileOutcome) (old new : Reported) : Type 0 where
+  pub part : AppendsPart old.output.contents new.output.contents outcome.printed
   pub failed : new.output.has_failed ≡ true
   pub silent : new.error ≡ old.error
   pub worst : new.worst ≡ old.worst
 
 -- how writing a result ends
-abbrev pub ReportsResult : {A : Type 0} → Answer → Reported → Reported → Result A WriteFault → Type 0
-ReportsResult answer old new (Ok done) = IsReported answer old new
-ReportsResult answer old new (Err fault) = IsCut answer old new
+abbrev pub ReportsResult : {A : Type 0} → FileOutcome → Reported → Reported → Result A WriteFault → Type 0
+ReportsResult outcome old new (Ok done) = IsReported outcome old new
+ReportsResult outcome old new (Err fault) = IsCut outcome old new
 
 -- how printing the heading ends: it is printed; or the output failed and has a first part of it; or
 -- memory ran out
@@ -109,38 +109,38 @@ Begins heading old new (Err faults.Memory) = new ≡ old
 Begins heading old new (Err faults.Read) = ⊥
 
 -- a file is read and has this result, with the reason if it could not be read
-pub record Serves (effects : Effects) (request : Request) (old : HostState) (answer : Answer) (new : HostState) : Type 0 where
+pub record Serves (effects : Effects) (request : Request) (old : HostState) (outcome : FileOutcome) (new : HostState) : Type 0 where
   pub bytes : Option (List ℕ)
   pub host : HostState
   pub read : IsRead request old bytes host
-  pub plain : Answer
+  pub plain : FileOutcome
   pub done : effects.does (shown_request request) bytes host plain new
   pub reason : Option Reason
   pub why : SaysWhy request old bytes host reason
-  pub is : answer ≡ explained reason plain
+  pub is : outcome ≡ explained reason plain
 
 -- a file is processed: its result is written
-pub record Answers (effects : Effects) (request : Request) (old new : RunState) : Type 0 where
-  pub answer : Answer
-  pub served : Serves effects request old.host answer new.host
-  pub reported : IsReported answer old.reported new.reported
+pub record Processes (effects : Effects) (request : Request) (old new : RunState) : Type 0 where
+  pub outcome : FileOutcome
+  pub served : Serves effects request old.host outcome new.host
+  pub reported : IsReported outcome old.reported new.reported
 
 -- files are processed, one after another
 unfoldable pub Steps : Effects → List Request → RunState → RunState → Type 0
 Steps effects [] old new = new ≡ old
-Steps effects (request ∷ more) old new = (middle : RunState) × Answers effects request old middle × Steps effects more middle new
+Steps effects (request ∷ more) old new = (middle : RunState) × Processes effects request old middle × Steps effects more middle new
 
 -- the output failed while the result of a file was written
 pub record FailsToReport (effects : Effects) (request : Request) (old new : RunState) : Type 0 where
-  pub answer : Answer
-  pub served : Serves effects request old.host answer new.host
-  pub reported : IsCut answer old.reported new.reported
+  pub outcome : FileOutcome
+  pub served : Serves effects request old.host outcome new.host
+  pub reported : IsCut outcome old.reported new.reported
 
 -- memory ran out while a file with this name and these bytes was processed, or its reason was added
 abbrev pub HaltsAt : Effects → List ℕ → Option (List ℕ) → HostState → HostState → Type 0
 HaltsAt effects name (Some bytes) old new = effects.halts name (Some bytes) old new
 HaltsAt effects name None old new =
-    effects.halts name None old new ⊎ ((plain : Answer) × effects.does name None old plain new)
+    effects.halts name None old new ⊎ ((plain : FileOutcome) × effects.does name None old plain new)
 
 -- memory ran out while a file was processed that was read, or could not be
 pub record Halts (effects : Effects) (request : Request) (old new : HostState) : Type 0 where
@@ -150,23 +150,23 @@ pub record Halts (effects : Effects) (request : Request) (old new : HostState) :
   pub halted : HaltsAt effects (shown_request request) bytes host new
 
 -- how a file that could not be read ends, if this is its result
-abbrev pub EndsUnread : Effects → List ℕ → Option Reason → HostState → HostState → (Verdict → Answer) → Result Verdict StreamFault → Type 0
-EndsUnread effects name reason old new answer (Ok verdict) =
-    (plain : Answer) × effects.does name None old plain new × (answer verdict ≡ explained reason plain)
-EndsUnread effects name reason old new answer (Err faults.Memory) = HaltsAt effects name None old new
-EndsUnread effects name reason old new answer (Err faults.Write) = ⊥
-EndsUnread effects name reason old new answer (Err faults.Read) = ⊥
+abbrev pub EndsUnread : Effects → List ℕ → Option Reason → HostState → HostState → (Verdict → FileOutcome) → Result Verdict StreamFault → Type 0
+EndsUnread effects name reason old new outcome (Ok verdict) =
+    (plain : FileOutcome) × effects.does name None old plain new × (outcome verdict ≡ explained reason plain)
+EndsUnread effects name reason old new outcome (Err faults.Memory) = HaltsAt effects name None old new
+EndsUnread effects name reason old new outcome (Err faults.Write) = ⊥
+EndsUnread effects name reason old new outcome (Err faults.Read) = ⊥
 
 -- memory ran out while a file was read or processed
 abbrev pub Wants : Effects → Request → HostState → HostState → Type 0
 Wants effects request old new = Halts effects request old new ⊎ (new ≡ old)
 
 -- how a file that is read and processed ends, if this is its result
-abbrev pub EndsServing : Effects → Request → HostState → HostState → (Verdict → Answer) → Result Verdict StreamFault → Type 0
-EndsServing effects request old new answer (Ok verdict) = Serves effects request old (answer verdict) new
-EndsServing effects request old new answer (Err faults.Memory) = Wants effects request old new
-EndsServing effects request old new answer (Err faults.Write) = ⊥
-EndsServing effects request old new answer (Err faults.Read) = ⊥
+abbrev pub EndsServing : Effects → Request → HostState → HostState → (Verdict → FileOutcome) → Result Verdict StreamFault → Type 0
+EndsServing effects request old new outcome (Ok verdict) = Serves effects request old (outcome verdict) new
+EndsServing effects request old new outcome (Err faults.Memory) = Wants effects request old new
+EndsServing effects request old new outcome (Err faults.Write) = ⊥
+EndsServing effects request old new outcome (Err faults.Read) = ⊥
 
 -- memory ran out: nothing was written about the file
 pub record WantsMemory (effects : Effects) (request : Request) (old new : RunState) : Type 0 where
@@ -181,7 +181,7 @@ StopsAt effects request faults.Read old new = ⊥
 
 -- how processing a file ends
 abbrev pub EndsAt : {A : Type 0} → Effects → Request → RunState → RunState → Result A StreamFault → Type 0
-EndsAt effects request old new (Ok done) = Answers effects request old new
+EndsAt effects request old new (Ok done) = Processes effects request old new
 EndsAt effects request old new (Err fault) = StopsAt effects request fault old new
 
 -- a run stops at one of these files, after those before it were processed
@@ -191,7 +191,7 @@ pub record StopsIn (effects : Effects) (all : List Request) (fault : StreamFault
   pub rest : List Request
   pub split : before ++ request ∷ rest ≡ all
   pub middle : RunState
-  pub answered : Steps effects before old middle
+  pub processed : Steps effects before old middle
   pub stopped : StopsAt effects request fault middle new
 
 -- how a run over these files ends: all are processed, or it stops at one

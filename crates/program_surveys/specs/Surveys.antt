@@ -4,7 +4,7 @@ use Rattle.host_storage.specs.declared.host.HostFault.{HostFault}
 use Rattle.host_storage.specs.declared.host.HostFault.TheVariants as refusals
 use Rattle.host_storage.specs.Output.{Account}
 use Rattle.program_surveys.specs.Names.{File}
-use Rattle.program_surveys.specs.Answers.{Effects}
+use Rattle.program_surveys.specs.FileOutcomes.{Effects}
 use Rattle.host_storage.specs.Files.{HostState}
 use Rattle.host_storage.specs.Host.{CountsDevice, Opens, one_more_failure}
 use Rattle.program_surveys.specs.Runs.{Begins, Runs, RunState, run_state, reported_of}
@@ -26,8 +26,8 @@ fault_of_list fault = faults.Read
 -- a file of the host was opened, which keeps its files; the result has its bytes, as far as they
 -- are known
 abbrev pub IsOpened : List ℕ → HostState → Result (Option (List ℕ)) HostFault → HostState → Type 0
-IsOpened name old answer new =
-    Opens old.files name answer × (new.files ≡ old.files) × CountsDevice old.failures new.failures answer
+IsOpened name old outcome new =
+    Opens old.files name outcome × (new.files ≡ old.files) × CountsDevice old.failures new.failures outcome
 
 -- the host after a list of it was read; the flag says whether a read failed, which is counted
 abbrev pub after_reading : Bool → HostState → HostState
@@ -46,7 +46,7 @@ RunsOpened effects separator (Err fault) first last result = (result ≡ Err (fa
 -- how a run over the names of a list of the host ends
 abbrev pub RunsListFile : {A : Type 0} → Effects → ℕ → List ℕ → RunState → RunState → Result A StreamFault → Type 0
 RunsListFile effects separator list first last result =
-    (answer : Result (Option (List ℕ)) HostFault) × (host : HostState) × IsOpened list first.host answer host × RunsOpened effects separator answer (run_state host first.reported) last result
+    (outcome : Result (Option (List ℕ)) HostFault) × (host : HostState) × IsOpened list first.host outcome host × RunsOpened effects separator outcome (run_state host first.reported) last result
 
 -- how a run over the files of a survey ends, what it leaves of the input, and whether a read of the
 -- input has failed

@@ -2,7 +2,7 @@
 ghost use Rattle.std.specs.Prelude.{◌≡◌, [], true, map, string_bytes, IfOk, OnErr, OnOk};
 ghost use Rattle.program_surveys.specs.Names.{File};
 ghost use Rattle.program_surveys.specs.Asked.{request_of};
-ghost use Rattle.program_surveys.specs.Answers.{KeepsQuiet, answer_of};
+ghost use Rattle.program_surveys.specs.FileOutcomes.{KeepsQuiet, file_outcome};
 ghost use Rattle.program_surveys.specs.Runs.{Begins, EndsAt, EndsServing, EndsUnread, Runs, ReportsResult, run_state_at, reported_at};
 ghost use Rattle.program_console.specs.Console.{Delivers, SameWriters, StaysDelivered};
 ghost use Rattle.program_console.specs.Outside.{account_at};
@@ -62,7 +62,7 @@ impl Batch {
     }
 
     /// Processes what is asked for: a file of the host, or a name that cannot be a file's.
-    pub(crate) fn answer<H: Host, C: FileTask, W: Write, F: Write>(
+    pub(crate) fn process<H: Host, C: FileTask, W: Write, F: Write>(
         &mut self,
         asked: Asked<'_>,
         host: &mut H,
@@ -73,7 +73,7 @@ impl Batch {
         ensures options { C.options task.new ≡ C.options task.old }
         ensures delivered { OnOk result (Delivers outputs.old.output outputs.new.output) }
         ensures silent { KeepsQuiet (C.effects (C.options task.old)) → self.new.worst ≡ Verdict.Clean → (self.old.worst ≡ Verdict.Clean) × (outputs.new.faults ≡ outputs.old.faults) }
-        ensures answered { EndsAt (C.effects (C.options task.old)) (request_of asked.entry)
+        ensures processed { EndsAt (C.effects (C.options task.old)) (request_of asked.entry)
             (run_state_at W.contents F.contents outputs.old (H.state host.old) self.old.worst)
             (run_state_at W.contents F.contents outputs.new (H.state host.new) self.new.worst) result }
     {
@@ -95,7 +95,7 @@ impl Batch {
         ensures worst { self.new.worst ≡ self.old.worst }
         ensures quiet { IfOk result (λ verdict. KeepsQuiet (C.effects (C.options task.old)) → verdict ≡ Verdict.Clean → self.new.buffer.complaint.items ≡ []) }
         ensures served { EndsServing (C.effects (C.options task.old)) (request_of asked.entry) (H.state host.old) (H.state host.new)
-            (answer_of self.new.buffer.printed.items self.new.buffer.complaint.items) result }
+            (file_outcome self.new.buffer.printed.items self.new.buffer.complaint.items) result }
     {
         let name = match asked {
             Asked::File(name) => name,
@@ -106,7 +106,7 @@ impl Batch {
         match host.fill(name, INPUT_BYTES, &mut self.bytes) {
             Ok(()) => {
                 let bytes = Some(self.bytes.as_slice());
-                Ok(task.answer(name.as_bytes(), bytes, host, &mut self.buffer)?)
+                Ok(task.process_file(name.as_bytes(), bytes, host, &mut self.buffer)?)
             }
             Err(HostFault::Memory(_)) => Err(StreamFault::Memory),
             Err(fault) => {
@@ -129,16 +129,16 @@ impl Batch {
         ensures worst { self.new.worst ≡ self.old.worst }
         ensures quiet { IfOk result (λ verdict. KeepsQuiet (C.effects (C.options task.old)) → verdict ≡ Verdict.Clean → self.new.buffer.complaint.items ≡ []) }
         ensures served { EndsUnread (C.effects (C.options task.old)) name.now reason (H.state host.old) (H.state host.new)
-            (answer_of self.new.buffer.printed.items self.new.buffer.complaint.items) result }
+            (file_outcome self.new.buffer.printed.items self.new.buffer.complaint.items) result }
     {
-        let verdict = task.answer(name, None, host, &mut self.buffer)?;
+        let verdict = task.process_file(name, None, host, &mut self.buffer)?;
         push_known_reason(&mut self.buffer.complaint, reason)?;
         Ok(verdict)
     }
 
     /// Processes files of the host, one after another. `Write` comes if the output fails, and no
     /// file is processed after that; a file that cannot be read stops nothing.
-    pub fn answer_files<H: Host, C: FileTask, W: Write, F: Write>(
+    pub fn process_files<H: Host, C: FileTask, W: Write, F: Write>(
         &mut self,
         names: &[String],
         host: &mut H,
@@ -149,12 +149,12 @@ impl Batch {
         ensures options { C.options task.new ≡ C.options task.old }
         ensures delivered { OnOk result (StaysDelivered outputs.old.output outputs.new.output) }
         ensures silent { KeepsQuiet (C.effects (C.options task.old)) → self.new.worst ≡ Verdict.Clean → (self.old.worst ≡ Verdict.Clean) × (outputs.new.faults ≡ outputs.old.faults) }
-        ensures answered { Runs (C.effects (C.options task.old)) (map (λ name. File (string_bytes name)) names.now)
+        ensures processed { Runs (C.effects (C.options task.old)) (map (λ name. File (string_bytes name)) names.now)
             (run_state_at W.contents F.contents outputs.old (H.state host.old) self.old.worst)
             (run_state_at W.contents F.contents outputs.new (H.state host.new) self.new.worst) result }
     {
         for name in names {
-            self.answer(Asked::File(name.as_str()), host, task, outputs)?;
+            self.process(Asked::File(name.as_str()), host, task, outputs)?;
         }
         Ok(())
     }
@@ -171,7 +171,7 @@ impl Batch {
         ensures delivered { OnOk result (Delivers outputs.old.output outputs.new.output) }
         ensures silent { self.old.buffer.complaint.items ≡ [] → outputs.new.faults ≡ outputs.old.faults }
         ensures stopped { OnErr result (outputs.new.faults ≡ outputs.old.faults) }
-        ensures reported { ReportsResult (answer_of self.old.buffer.printed.items self.old.buffer.complaint.items verdict)
+        ensures reported { ReportsResult (file_outcome self.old.buffer.printed.items self.old.buffer.complaint.items verdict)
             (reported_at W.contents F.contents outputs.old self.old.worst)
             (reported_at W.contents F.contents outputs.new self.new.worst) result }
     {

@@ -1,7 +1,7 @@
 //! `ListBatch`: the same for the names of a list, as its bytes come.
 ghost use Rattle.std.specs.Prelude.{◌≡◌, Err, [], List, ℕ, true, OnOk};
 ghost use Rattle.host_storage.specs.Input.{IsUnread, IsUnreadable, reading_of};
-ghost use Rattle.program_surveys.specs.Answers.{KeepsQuiet};
+ghost use Rattle.program_surveys.specs.FileOutcomes.{KeepsQuiet};
 ghost use Rattle.program_surveys.specs.Names.{requests_of};
 ghost use Rattle.program_surveys.specs.Runs.{Runs, run_state_at};
 ghost use Rattle.program_surveys.specs.Lists.{EndsList, HasComeTo, KeepsList, RunsStream, list_state_of, view_of};
@@ -50,7 +50,7 @@ impl ListBatch {
     /// Processes the files that an input names, each once its name is ended. `List` comes if the
     /// input cannot be read to its end: a read failed, or it has more than 16,777,216 bytes, or
     /// takes more than 1,000,000 reads.
-    pub fn answer_stream<R: Read, H: Host, C: FileTask, W: Write, F: Write>(
+    pub fn process_stream<R: Read, H: Host, C: FileTask, W: Write, F: Write>(
         &mut self,
         input: &mut InputStream<'_, R>,
         host: &mut H,
@@ -65,7 +65,7 @@ impl ListBatch {
         ensures same { SameWriters outputs.old outputs.new }
         ensures delivered { OnOk result (Delivers outputs.old.output outputs.new.output) }
         ensures silent { KeepsQuiet (C.effects (C.options task.old)) → self.new.batch.worst ≡ Verdict.Clean → (self.old.batch.worst ≡ Verdict.Clean) × (outputs.new.faults ≡ outputs.old.faults) }
-        ensures answered { RunsStream (C.effects (C.options task.old)) self.old.separator (R.remaining input.old.reader.now) (R.remaining input.new.reader.now) input.new.has_failed
+        ensures processed { RunsStream (C.effects (C.options task.old)) self.old.separator (R.remaining input.old.reader.now) (R.remaining input.new.reader.now) input.new.has_failed
             (run_state_at W.contents F.contents outputs.old (H.state host.old) self.old.batch.worst)
             (run_state_at W.contents F.contents outputs.new (H.state host.new) self.new.batch.worst) result }
     {
@@ -90,12 +90,12 @@ impl ListBatch {
         ensures same { SameWriters outputs.old outputs.new }
         ensures delivered { OnOk result (StaysDelivered outputs.old.output outputs.new.output) }
         ensures silent { KeepsQuiet (C.effects (C.options task.old)) → self.new.batch.worst ≡ Verdict.Clean → (self.old.batch.worst ≡ Verdict.Clean) × (outputs.new.faults ≡ outputs.old.faults) }
-        ensures answered { Runs (C.effects (C.options task.old)) (requests_of self.old.name)
+        ensures processed { Runs (C.effects (C.options task.old)) (requests_of self.old.name)
             (run_state_at W.contents F.contents outputs.old (H.state host.old) self.old.batch.worst)
             (run_state_at W.contents F.contents outputs.new (H.state host.new) self.new.batch.worst) result }
     {
         match self.name.asked() {
-            Some(asked) => self.batch.answer(asked, host, task, outputs),
+            Some(asked) => self.batch.process(asked, host, task, outputs),
             None => Ok(()),
         }
     }
@@ -129,7 +129,7 @@ impl<'l, 'h, 'c, 'o, 's, H: Host, C: FileTask, W: Write, F: Write> ListRun<
         ensures unreadable { result ≡ Err StreamFault.Read → IsUnreadable (reading_of input.new.reads input.new.came input.new.has_failed) }
         ensures kept { KeepsList (view_of C.options C.effects H.state W.contents F.contents) self.old self.new }
         ensures delivered { OnOk result (Delivers self.old.outputs.now.output self.new.outputs.now.output) }
-        ensures answered { RunsStream (C.effects (C.options self.old.task.now)) self.old.list.now.separator (R.remaining input.old.reader.now) (R.remaining input.new.reader.now) input.new.has_failed
+        ensures processed { RunsStream (C.effects (C.options self.old.task.now)) self.old.list.now.separator (R.remaining input.old.reader.now) (R.remaining input.new.reader.now) input.new.has_failed
             (list_state_of (view_of C.options C.effects H.state W.contents F.contents) self.old) (list_state_of (view_of C.options C.effects H.state W.contents F.contents) self.new) result }
     {
         let separator = self.list.separator;

@@ -1,6 +1,6 @@
 //! `ReportBuffer` and `Verdict`: what is printed of a file, and how good it is.
 ghost use Rattle.std.specs.Prelude.{◌≡◌, []};
-ghost use Rattle.program_surveys.specs.Answers.{worse_verdict, status_of};
+ghost use Rattle.program_surveys.specs.FileOutcomes.{worse_verdict, status_of};
 
 use std::alloc::{AllocError, Global};
 

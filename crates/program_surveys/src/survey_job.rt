@@ -1,7 +1,7 @@
 //! The run of a survey: a report on each file that the arguments or a list name.
 ghost use Rattle.std.specs.Prelude.{◌≡◌, ◌≤◌, ℕ, List, [], Err, IfErr, IfOk, Ok, OnOk, Result, true};
 ghost use Rattle.host_storage.specs.declared.host.HostFault.{HostFault};
-ghost use Rattle.program_surveys.specs.Answers.{KeepsQuiet};
+ghost use Rattle.program_surveys.specs.FileOutcomes.{KeepsQuiet};
 ghost use Rattle.program_console.specs.Reasons.{with_known_reason};
 ghost use Rattle.out_messages.specs.FaultLines.{unread_line};
 ghost use Rattle.program_surveys.specs.Runs.{run_state_at};
@@ -60,7 +60,7 @@ fn reason_of_list<H: Host>(list: &str, host: &H) -> Option<Reason>
 }
 
 /// Processes the files that a list of the host names. A failed read of the list is counted.
-fn answer_list_file<H: Host, C: FileTask, W: Write, F: Write>(
+fn process_list_file<H: Host, C: FileTask, W: Write, F: Write>(
     list: &str,
     batch: &mut ListBatch,
     host: &mut H,
@@ -71,13 +71,13 @@ fn answer_list_file<H: Host, C: FileTask, W: Write, F: Write>(
     ensures same { SameWriters outputs.old outputs.new }
     ensures delivered { OnOk result (Delivers outputs.old.output outputs.new.output) }
     ensures silent { KeepsQuiet (C.effects (C.options task.old)) → batch.new.batch.worst ≡ Verdict.Clean → (batch.old.batch.worst ≡ Verdict.Clean) × (outputs.new.faults ≡ outputs.old.faults) }
-    ensures answered { RunsListFile (C.effects (C.options task.old)) batch.old.separator list.now
+    ensures processed { RunsListFile (C.effects (C.options task.old)) batch.old.separator list.now
         (run_state_at W.contents F.contents outputs.old (H.state host.old) batch.old.batch.worst)
         (run_state_at W.contents F.contents outputs.new (H.state host.new) batch.new.batch.worst) result }
 {
     let mut file = open_list(list, host)?;
     let mut list = InputStream::new(&mut file);
-    match batch.answer_stream(&mut list, host, task, outputs) {
+    match batch.process_stream(&mut list, host, task, outputs) {
         Ok(()) => return Ok(()),
         Err(StreamFault::Read) => {}
         Err(StreamFault::Write) => return Err(StreamFault::Write),
@@ -140,14 +140,14 @@ impl<'n> SurveyJob<'n> {
             Ok(task) => task,
             Err(_) => return ProgramFault::Memory.report_on(&mut console.outputs.faults),
         };
-        match self.answer(&mut task, console, host) {
+        match self.survey(&mut task, console, host) {
             Ok(verdict) => verdict.exit_status(),
             Err(fault) => self.report_fault(fault, host, &mut console.outputs.faults),
         }
     }
 
     /// Processes the files by a task, and returns the worst verdict.
-    fn answer<R: Read, W: Write, F: Write, H: Host, C: FileTask>(
+    fn survey<R: Read, W: Write, F: Write, H: Host, C: FileTask>(
         &self,
         task: &mut C,
         console: &mut Console<'_, R, W, F>,
@@ -165,18 +165,18 @@ impl<'n> SurveyJob<'n> {
         batch.begin(task, &mut console.outputs)?;
         match self.names {
             FileNames::Given(names) => {
-                batch.answer_files(names, host, task, &mut console.outputs)?;
+                batch.process_files(names, host, task, &mut console.outputs)?;
                 Ok(batch.worst())
             }
             FileNames::Listed { list, separator } => {
                 let mut batch = ListBatch::new(batch, separator);
                 match list {
                     "-" => {
-                        batch.answer_stream(&mut console.input, host, task, &mut console.outputs)?;
+                        batch.process_stream(&mut console.input, host, task, &mut console.outputs)?;
                         Ok(batch.worst())
                     }
                     list => {
-                        answer_list_file(list, &mut batch, host, task, &mut console.outputs)?;
+                        process_list_file(list, &mut batch, host, task, &mut console.outputs)?;
                         Ok(batch.worst())
                     }
                 }

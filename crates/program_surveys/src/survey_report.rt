@@ -1,6 +1,6 @@
 //! `SurveyReport`: the report of a survey, by a printer.
 ghost use Rattle.std.specs.Prelude.{◌≡◌, IfOk};
-ghost use Rattle.program_surveys.specs.Answers.{Rule, by_rule};
+ghost use Rattle.program_surveys.specs.FileOutcomes.{Rule, by_rule};
 ghost use Rattle.program_surveys.specs.Printings.{survey_rule};
 
 use crate::dump_buffer::DumpBuffer;
@@ -54,7 +54,7 @@ impl<P: Printer + Drop> FileTask for SurveyReport<P> {
         Ok(())
     }
 
-    fn answer<H: Host>(
+    fn process_file<H: Host>(
         &mut self,
         name: &[u8],
         bytes: Option<&[u8]>,

@@ -1,6 +1,6 @@
 //! `FileTask`: what is done with each file of a run, if the host may change, and what is printed.
 ghost use Rattle.std.specs.Prelude.{◌≡◌, IfOk, OnErr, OnOk, List, ℕ, option_map};
-ghost use Rattle.program_surveys.specs.Answers.{Effects, answer_of};
+ghost use Rattle.program_surveys.specs.FileOutcomes.{Effects, file_outcome};
 
 use crate::report::{ReportBuffer, Verdict};
 use host_storage::Host;
@@ -28,7 +28,7 @@ pub trait FileTask {
     /// Does the task for the file shown by `name`, with these bytes (None if it cannot be read),
     /// and replaces the buffer's contents by what is printed of it. If memory runs out, the host
     /// may have changed.
-    fn answer<H: Host>(
+    fn process_file<H: Host>(
         &mut self,
         name: &[u8],
         bytes: Option<&[u8]>,
@@ -37,6 +37,6 @@ pub trait FileTask {
     ) -> Result<Verdict, AllocError>
         ensures same { options self.new ≡ options self.old }
         ensures done { IfOk result (λ verdict. (effects (options self.old)).does name.now (option_map (λ bytes. bytes.now) bytes.entry) (H.state host.old)
-            (answer_of buffer.new.printed.items buffer.new.complaint.items verdict) (H.state host.new)) }
+            (file_outcome buffer.new.printed.items buffer.new.complaint.items verdict) (H.state host.new)) }
         ensures halted { OnErr result ((effects (options self.old)).halts name.now (option_map (λ bytes. bytes.now) bytes.entry) (H.state host.old) (H.state host.new)) };
 }

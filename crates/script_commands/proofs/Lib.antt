@@ -6,4 +6,4 @@ mod LoneCommands
 pub mod AsciiTexts
 pub mod FoundFiles
 pub mod FileTexts
-pub mod HeldAnswers
+pub mod ExecutedLines

@@ -9,7 +9,7 @@ use Rattle.petscii.specs.declared.fault.TextFault.{TextFault}
 use Rattle.petscii.specs.declared.fault.TextFault.TheVariants.{UnknownName, OpenBrace, BadByte, Memory}
 use Rattle.script_text.specs.declared.status.Status.{Status}
 use Rattle.script_text.specs.declared.status.Status.TheVariants.{OutOfMemory}
-use Rattle.script_commands.specs.Act.{Act, Give, Then, ◌>>=◌, Text, each_text, Does, Ending, IsSpelled, LineAnswer, World, plain_answer}
+use Rattle.script_commands.specs.Act.{Act, Give, Then, ◌>>=◌, Text, each_text, Does, Ending, IsSpelled, LineResponse, World, plain_response}
 use Rattle.host_storage.specs.Files.{HostState}
 use Rattle.d64_undo.specs.History.{History}
 use Rattle.script_commands.proofs.Acts.{Does-given, Does-grouped}
@@ -42,18 +42,18 @@ not_spelled test word bytes one read fails others spelled =
 
 -- an argument was read, and what its bytes ask for was done
 pub Does-read : (test : List ℕ → Bool) (word : List ℕ) (next : List ℕ → Act Ending) (bytes : List ℕ) (host : HostState) (history : History)
-    (answer : LineAnswer) (after : World)
-    → Reads test word (Ok bytes) → Does (next bytes) (record { host = host; history = history }) answer after
-    → Does (Then (Text test word) next) (record { host = host; history = history }) answer after
-Does-read test word next bytes host history answer after read done = Does-given (Text test word) next bytes host host history answer after (read, refl) done
+    (response : LineResponse) (after : World)
+    → Reads test word (Ok bytes) → Does (next bytes) (record { host = host; history = history }) response after
+    → Does (Then (Text test word) next) (record { host = host; history = history }) response after
+Does-read test word next bytes host history response after read done = Does-given (Text test word) next bytes host host history response after (read, refl) done
 
 -- an argument was not read
 pub Does-unread : (test : List ℕ → Bool) (word : List ℕ) (next : List ℕ → Act Ending) (status : Status) (host : HostState) (history : History)
     → Reads test word (Err status)
-    → Does (Then (Text test word) next) (record { host = host; history = history }) (plain_answer status) (record { host = host; history = history })
+    → Does (Then (Text test word) next) (record { host = host; history = history }) (plain_response status) (record { host = host; history = history })
 unfolding Does
 Does-unread test word next status host history (inl bad) = inl (Err status, host, (bad.0, bad.1, refl), (refl, refl))
-Does-unread test word next status host history (inr memory) = inr (ap plain_answer memory, refl)
+Does-unread test word next status host history (inr memory) = inr (ap plain_response memory, refl)
 
 -- one more argument was read
 pub ReadsEach-more : (test : List ℕ → Bool) (words : List (Bor (List ℕ))) (place : ℕ) (word : Bor (List ℕ)) (texts : List (List ℕ)) (bytes : List ℕ)
@@ -84,22 +84,22 @@ ReadsEach-no_room test words place word texts bytes inside read next = ReadsEach
 
 -- arguments were read from left to right, and what their bytes ask for was done
 pub Does-read_each : (test : List ℕ → Bool) (words texts : List (List ℕ)) (next : List (List ℕ) → Act Ending) (host : HostState) (history : History)
-    (answer : LineAnswer) (after : World)
-    → AllZip (IsSpelled test) words texts → Does (next texts) (record { host = host; history = history }) answer after
-    → Does (each_text test words >>= next) (record { host = host; history = history }) answer after
-Does-read_each test [] [] next host history answer after read done = done
-Does-read_each test [] (bytes ∷ texts) next host history answer after read done = absurd read
-Does-read_each test (word ∷ words) [] next host history answer after read done = absurd read
-Does-read_each test (word ∷ words) (bytes ∷ texts) next host history answer after read done =
-    Does-read test word _ bytes host history answer after read.0
-    (Does-grouped (each_text test words) (λ more. Give (bytes ∷ more)) next _ answer after
-    (Does-read_each test words texts (λ more. next (bytes ∷ more)) host history answer after read.1 done))
+    (response : LineResponse) (after : World)
+    → AllZip (IsSpelled test) words texts → Does (next texts) (record { host = host; history = history }) response after
+    → Does (each_text test words >>= next) (record { host = host; history = history }) response after
+Does-read_each test [] [] next host history response after read done = done
+Does-read_each test [] (bytes ∷ texts) next host history response after read done = absurd read
+Does-read_each test (word ∷ words) [] next host history response after read done = absurd read
+Does-read_each test (word ∷ words) (bytes ∷ texts) next host history response after read done =
+    Does-read test word _ bytes host history response after read.0
+    (Does-grouped (each_text test words) (λ more. Give (bytes ∷ more)) next _ response after
+    (Does-read_each test words texts (λ more. next (bytes ∷ more)) host history response after read.1 done))
 
 -- arguments were read from left to right up to one that was not
 pub Does-unread_after : (test : List ℕ → Bool) (before texts : List (List ℕ)) (word : List ℕ) (more : List (List ℕ)) (next : List (List ℕ) → Act Ending)
     (status : Status) (host : HostState) (history : History)
     → AllZip (IsSpelled test) before texts → Reads test word (Err status)
-    → Does (each_text test (before ++ word ∷ more) >>= next) (record { host = host; history = history }) (plain_answer status) (record { host = host; history = history })
+    → Does (each_text test (before ++ word ∷ more) >>= next) (record { host = host; history = history }) (plain_response status) (record { host = host; history = history })
 Does-unread_after test [] [] word more next status host history read bad = Does-unread test word _ status host history bad
 Does-unread_after test [] (bytes ∷ texts) word more next status host history read bad = absurd read
 Does-unread_after test (first ∷ before) [] word more next status host history read bad = absurd read
@@ -111,6 +111,6 @@ Does-unread_after test (first ∷ before) (bytes ∷ texts) word more next statu
 -- one of the arguments was not read
 pub Does-unread_each : (test : List ℕ → Bool) (words : List (List ℕ)) (next : List (List ℕ) → Act Ending) (status : Status) (host : HostState) (history : History)
     → ReadsEach test words (Err status)
-    → Does (each_text test words >>= next) (record { host = host; history = history }) (plain_answer status) (record { host = host; history = history })
+    → Does (each_text test words >>= next) (record { host = host; history = history }) (plain_response status) (record { host = host; history = history })
 Does-unread_each test words next status host history (before, texts, word, more, is, read, bad) =
     rw is (Does-unread_after test before texts word more next status host history read bad)

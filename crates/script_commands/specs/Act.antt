@@ -14,18 +14,18 @@ use Rattle.script_text.specs.declared.status.Status.{Status}
 use Rattle.script_text.specs.declared.status.Status.TheVariants.{BadName, HostFile, OutOfMemory}
 
 -- the response to a line: output, status, and whether it ends the run
-pub record LineAnswer : Type 0 where
+pub record LineResponse : Type 0 where
   pub output : Bytes
   pub status : Status
   pub closes : Bool
 
 -- a status with no output
-abbrev pub plain_answer : Status → LineAnswer
-plain_answer status = record { output = []; status = status; closes = false }
+abbrev pub plain_response : Status → LineResponse
+plain_response status = record { output = []; status = status; closes = false }
 
 -- a response's output, then its status line
-abbrev pub printed_bytes : LineAnswer → Bytes
-printed_bytes answer = answer.output ++ status_line answer.status
+abbrev pub printed_bytes : LineResponse → Bytes
+printed_bytes response = response.output ++ status_line response.status
 
 -- what the script works on: host and history
 pub record World : Type 0 where
@@ -91,7 +91,7 @@ each_text test (word ∷ words) = do
 
 -- the response to an accepted line, and the history after it
 pub record Ending : Type 0 where
-  pub answer : LineAnswer
+  pub response : LineResponse
   pub history : History
 
 -- an argument is the text form of bytes that pass a test
@@ -100,14 +100,14 @@ IsSpelled test word bytes = IsTextOf bytes word × (test bytes ≡ true)
 
 -- what a host can return for a fetch, always bytes, and what it exposes then
 pub record FetchesFile (old : HostState) (name : Bytes) (limit : ℕ) (fetched : Result Bytes HostFault) (new : HostState) : Type 0 where
-  pub answer : Fetches old.files name limit fetched
+  pub response : Fetches old.files name limit fetched
   pub bytes : IfOk fetched AreBytes
   pub counted : CountsDevice old.failures new.failures fetched
   pub kept : new.files ≡ old.files
 
 -- the same for a store
 pub record StoresFile (old : HostState) (name bytes : Bytes) (stored : Result (Unit {0}) HostFault) (new : HostState) : Type 0 where
-  pub answer : Stores old.files name bytes stored new.files
+  pub response : Stores old.files name bytes stored new.files
   pub counted : CountsDevice old.failures new.failures stored
 
 -- the status of a fault of the host
@@ -133,12 +133,12 @@ CallGives (Expand file) old given new = Expands file given × (new ≡ old)
 CallGives Room old given new = (given ≡ Ok []) × (new ≡ old)
 
 -- an act of a line from one world to another, with a response; before each call memory may be out
-unfoldable pub Does : Act Ending → World → LineAnswer → World → Type 0
-Does (Give ending) world answer after = (answer ≡ ending.answer) × (after ≡ record world { history = ending.history })
-Does (Refuse status) world answer after = (answer ≡ plain_answer status) × (after ≡ world)
-Does (Then call next) world answer after =
+unfoldable pub Does : Act Ending → World → LineResponse → World → Type 0
+Does (Give ending) world response after = (response ≡ ending.response) × (after ≡ record world { history = ending.history })
+Does (Refuse status) world response after = (response ≡ plain_response status) × (after ≡ world)
+Does (Then call next) world response after =
     ((given : Result Bytes Status) × (host : HostState) × CallGives call world.host given host
     × MatchResult given
-    (λ bytes. Does (next bytes) (record world { host = host }) answer after)
-    (λ status. (answer ≡ plain_answer status) × (after ≡ record world { host = host })))
-    ⊎ ((answer ≡ plain_answer OutOfMemory) × (after ≡ world))
+    (λ bytes. Does (next bytes) (record world { host = host }) response after)
+    (λ status. (response ≡ plain_response status) × (after ≡ record world { host = host })))
+    ⊎ ((response ≡ plain_response OutOfMemory) × (after ≡ world))

@@ -23,7 +23,7 @@ use Rattle.script_commands.specs.ListingText.{listing_text}
 use Rattle.script_text.specs.RawLines.{text_of, is_too_long, is_skipped}
 use Rattle.script_text.specs.Dump.{dump}
 use Rattle.script_commands.specs.WordCounts.{no_word, one_word, at_most_one, word_and, some_words}
-use Rattle.script_commands.specs.Act.{Act, Give, Refuse, ◌>>=◌, ◌>>◌, value_or_refusal, need, Text, Fetch, Store, Crunch, Expand, Room, ask, each_text, Ending, plain_answer, World, LineAnswer, Does}
+use Rattle.script_commands.specs.Act.{Act, Give, Refuse, ◌>>=◌, ◌>>◌, value_or_refusal, need, Text, Fetch, Store, Crunch, Expand, Room, ask, each_text, Ending, plain_response, World, LineResponse, Does}
 use Rattle.d64_dos.specs.Change.{Change}
 use Rattle.d64_dos.specs.Change as changes
 use Rattle.d64_dos.specs.declared.command.Reply.{Reply}
@@ -54,11 +54,11 @@ refuse_by (Some refusal) = Refuse (status_of_refusal refusal)
 
 -- accepts the line, and shows an output
 abbrev pub show : Bytes → History → Act Ending
-show output history = Give (record { answer = record (plain_answer Done) { output = output }; history = history })
+show output history = Give (record { response = record (plain_response Done) { output = output }; history = history })
 
 -- accepts the line, and leaves a history
 abbrev pub leave : History → Act Ending
-leave history = Give (record { answer = plain_answer Done; history = history })
+leave history = Give (record { response = plain_response Done; history = history })
 
 -- accepts the line once bytes are stored under a name of the host
 abbrev pub put : History → Bytes → Bytes → Act Ending
@@ -71,7 +71,7 @@ abbrev pub run : History → Change → Act Ending
 run history change = do
   refuse_by (refusal_of (present_image history) change)
   ask Room
-  Give (record { answer = plain_answer (status_of_reply (reply_to (present_image history) change)); history = extended_history history (image_after (present_image history) change) })
+  Give (record { response = plain_response (status_of_reply (reply_to (present_image history) change)); history = extended_history history (image_after (present_image history) change) })
 
 -- `block`: shows a block
 abbrev pub block_act : History → Bytes × Bytes → Act Ending
@@ -180,7 +180,7 @@ petcat_act history name = do
 
 -- `quit`: ends the run
 abbrev pub quit_act : History → Act Ending
-quit_act history = Give (record { answer = record (plain_answer Done) { closes = true }; history = history })
+quit_act history = Give (record { response = record (plain_response Done) { closes = true }; history = history })
 
 -- stores the file that a pattern finds in a host file, by default under its own name in text form
 abbrev pub read_to : History → Bytes → Option Bytes → Act Ending
@@ -339,6 +339,6 @@ abbrev pub IsSkipped : Option Bytes → History → Bytes → World → World �
 IsSkipped home history line world after = (act_of_line home history line ≡ None) × (after ≡ world)
 
 -- a line has an act, which is done with a response
-abbrev pub IsAnswered : Option Bytes → History → Bytes → World → LineAnswer → World → Type 0
-IsAnswered home history line world answer after =
-    MatchOption (act_of_line home history line) ⊥ (λ act. Does act world answer after)
+abbrev pub IsExecuted : Option Bytes → History → Bytes → World → LineResponse → World → Type 0
+IsExecuted home history line world response after =
+    MatchOption (act_of_line home history line) ⊥ (λ act. Does act world response after)

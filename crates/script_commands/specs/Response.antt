@@ -3,7 +3,7 @@ use Rattle.std.specs.Prelude.{nat_lt, if◌then◌else◌, [], length, Result, O
 use Rattle.d64_image.specs.Disk.{Bytes, Disk}
 use Rattle.d64_image.specs.Image.{sector_at}
 use Rattle.script_text.specs.Dump.{dump}
-use Rattle.script_commands.specs.Act.{Act, Ending, world_of, Does, LineAnswer, plain_answer}
+use Rattle.script_commands.specs.Act.{Act, Ending, world_of, Does, LineResponse, plain_response}
 use Rattle.host_storage.specs.Files.{HostState}
 use Rattle.d64_undo.specs.History.{History, present_image}
 use Rattle.script_commands.specs.declared.response.Response.{Response}
@@ -18,17 +18,17 @@ output_bytes image (Block at) = if nat_lt at (length image) then dump (sector_at
 output_bytes image (Text text) = text.items
 
 -- a response as the definitions see it, for this as the image
-abbrev pub shown_answer : Disk → Response → LineAnswer
-shown_answer image response = record { output = output_bytes image response.output; status = response.status; closes = response.closes }
+abbrev pub shown_response : Disk → Response → LineResponse
+shown_response image response = record { output = output_bytes image response.output; status = response.status; closes = response.closes }
 
 -- the response to a line: that of an accepted one, or the status that refuses it, with no output
-abbrev pub line_answer : Disk → Result Response Status → LineAnswer
-line_answer image (Ok response) = shown_answer image response
-line_answer image (Err status) = plain_answer status
+abbrev pub line_response : Disk → Result Response Status → LineResponse
+line_response image (Ok response) = shown_response image response
+line_response image (Err status) = plain_response status
 
 -- an act is done with a response, by a host and a session: their states before and after
 abbrev pub Responds : Act Ending → HostState → History → Result Response Status → HostState → History → Type 0
-Responds act old_host old result new_host new = Does act (world_of old_host old) (line_answer (present_image new) result) (world_of new_host new)
+Responds act old_host old result new_host new = Does act (world_of old_host old) (line_response (present_image new) result) (world_of new_host new)
 
 -- an act is done with a response by the session alone, whatever the host is
 abbrev pub RespondsAlone : Act Ending → History → Result Response Status → History → Type 0

@@ -2,8 +2,8 @@
 //! the host, its status, and the lines that it prints; and what observes them, line by line.
 #![tactic(auto)]
 
-mod answer;
 mod arguments;
+mod execution;
 mod file_text;
 mod handlers;
 mod history_text;
@@ -14,6 +14,6 @@ mod observer;
 mod response;
 pub mod status_from;
 
-pub use answer::answer_line;
+pub use execution::execute_line;
 pub use observer::{Nobody, Observer, Opening, Refusals};
 pub use response::{Output, Response};

@@ -56,12 +56,12 @@ pub struct Response {
 impl Response {
     ghost use Rattle.std.specs.Prelude.{List, ℕ, false};
     ghost use Rattle.script_text.specs.declared.status.Status.TheVariants.{Done};
-    ghost use Rattle.script_commands.specs.Act.{plain_answer, printed_bytes};
-    ghost use Rattle.script_commands.specs.Response.{line_answer, shown_answer};
+    ghost use Rattle.script_commands.specs.Act.{plain_response, printed_bytes};
+    ghost use Rattle.script_commands.specs.Response.{line_response, shown_response};
 
     /// A status with no output.
     pub fn plain(status: Status) -> Response
-        ensures { (image : List (List ℕ)) → shown_answer image result ≡ plain_answer status }
+        ensures { (image : List (List ℕ)) → shown_response image result ≡ plain_response status }
     {
         Response {
             output: Output::Nothing,
@@ -71,10 +71,10 @@ impl Response {
     }
 
     /// The response to a line: that of an accepted one, or the status of a refusal with no output.
-    pub(crate) fn of(answer: Result<Response, Status>) -> Response
-        ensures { (image : List (List ℕ)) → shown_answer image result ≡ line_answer image answer }
+    pub(crate) fn of(response: Result<Response, Status>) -> Response
+        ensures { (image : List (List ℕ)) → shown_response image result ≡ line_response image response }
     {
-        match answer {
+        match response {
             Ok(response) => response,
             Err(status) => Response::plain(status),
         }
@@ -82,7 +82,7 @@ impl Response {
 
     /// Lines of text, for a line that was accepted.
     pub fn text(text: Vec<u8>) -> Response
-        ensures { (image : List (List ℕ)) → shown_answer image result ≡ record { output = text.items; status = Done; closes = false } }
+        ensures { (image : List (List ℕ)) → shown_response image result ≡ record { output = text.items; status = Done; closes = false } }
     {
         Response {
             output: Output::Text(text),
@@ -99,8 +99,8 @@ impl Response {
         image: &Image,
     ) -> Result<(), WriteFault>
         ensures same { output.new.writer.ghost_name ≡ output.old.writer.ghost_name }
-        ensures ok { OnOk result (Appends (W.contents output.old.writer.now) (W.contents output.new.writer.now) (printed_bytes (shown_answer image.now self.now))) }
-        ensures err { OnErr result (AppendsPart (W.contents output.old.writer.now) (W.contents output.new.writer.now) (printed_bytes (shown_answer image.now self.now))) }
+        ensures ok { OnOk result (Appends (W.contents output.old.writer.now) (W.contents output.new.writer.now) (printed_bytes (shown_response image.now self.now))) }
+        ensures err { OnErr result (AppendsPart (W.contents output.old.writer.now) (W.contents output.new.writer.now) (printed_bytes (shown_response image.now self.now))) }
         ensures failed { FailsWith result output.old.has_failed output.new.has_failed }
     {
         self.output.write(output, image)?;

@@ -9,5 +9,5 @@ use Rattle.script_hints.specs.LineStart.{line_start}
 pub may_start : {V : Type 0} (items : V → List ℕ) (line : HeldLine) (is_numbered : Bool) (number : ℕ) (first raw start : List ℕ) (found : Option V)
     → IfSome found (λ v. (is_numbered ≡ true) × ((raw : List ℕ) → HoldsText line raw → items v ≡ line_start number (shown_raw_text raw first)))
     → HoldsText line raw → start ≡ option_map_or items found (codes "d64sh: ") → MayStart is_numbered number (shown_raw_text raw first) start
-may_start items line is_numbered number first raw start None tells says is = inl is
-may_start items line is_numbered number first raw start (Some v) tells says is = inr (tells.0, is ∙ tells.1 raw says)
+may_start items line is_numbered number first raw start None shows says is = inl is
+may_start items line is_numbered number first raw start (Some v) shows says is = inr (shows.0, is ∙ shows.1 raw says)

@@ -237,7 +237,7 @@ fn is_shown(
         return Ok(false);
     };
     let text = format!(in alloc; "{fault}")?;
-    let has_line = text.as_str().lines().any(|told| told == line);
+    let has_line = text.as_str().lines().any(|known| known == line);
     Ok(has_line && fault.is_help_or_version() == is_help_or_version)
 }
 

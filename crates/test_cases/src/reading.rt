@@ -86,8 +86,8 @@ impl<'r, R: Files + AllocGlobal> Reading<'r, R> {
         }
         match self.exchanges.last_mut() {
             Some(exchange) => {
-                exchange.answer.push_str(printed_line(line))?;
-                exchange.answer.push_str("\n")?;
+                exchange.response.push_str(printed_line(line))?;
+                exchange.response.push_str("\n")?;
                 Ok(())
             }
             None => self.take_step(line),
@@ -100,7 +100,7 @@ impl<'r, R: Files + AllocGlobal> Reading<'r, R> {
         }
         let exchange = Exchange {
             said: said_of(self.rt, text)?,
-            answer: String::new(self.rt.alloc()),
+            response: String::new(self.rt.alloc()),
         };
         self.exchanges.push(exchange)?;
         Ok(())

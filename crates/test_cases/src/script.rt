@@ -18,14 +18,14 @@ pub enum Said {
 #[derive(Drop)]
 pub struct Exchange {
     pub said: Said,
-    pub answer: String,
+    pub response: String,
 }
 
 /// Where a line of a script ends, and where its output does.
 #[derive(Clone, Copy, Debug, PartialEq, Eq)]
 pub struct Mark {
     pub script: usize,
-    pub answers: usize,
+    pub responses: usize,
     /// Whether the line is a `quit` that was accepted.
     pub closes: bool,
 }
@@ -34,7 +34,7 @@ impl Mark {
     /// The mark before the first line.
     pub const START: Mark = Mark {
         script: 0,
-        answers: 0,
+        responses: 0,
         closes: false,
     };
 }
@@ -44,7 +44,7 @@ impl Mark {
 pub struct Script {
     alloc: Global,
     pub bytes: Vec<u8>,
-    pub answers: String,
+    pub responses: String,
     pub marks: Vec<Mark>,
 }
 
@@ -53,20 +53,20 @@ impl Script {
         Script {
             alloc,
             bytes: Vec::new(alloc),
-            answers: String::new(alloc),
+            responses: String::new(alloc),
             marks: Vec::new(alloc),
         }
     }
 
     /// Adds a part with its output.
     pub fn add(&mut self, exchange: &Exchange) -> Result<(), AllocError> {
-        let answer = exchange.answer.as_str();
+        let response = exchange.response.as_str();
         match &exchange.said {
-            Said::Line(line) => self.add_line(line.as_str(), answer),
-            Said::Numbered(times, line) => self.add_numbered(*times, line.as_str(), answer),
+            Said::Line(line) => self.add_line(line.as_str(), response),
+            Said::Numbered(times, line) => self.add_numbered(*times, line.as_str(), response),
             Said::Bytes(bytes) => {
                 self.bytes.extend_from_slice(bytes.as_slice())?;
-                self.add_answer("", answer)
+                self.add_response("", response)
             }
         }
     }
@@ -79,8 +79,8 @@ impl Script {
 
     /// Returns the line to whose output the byte after the first `limit` bytes belongs.
     pub fn printed_at(&self, limit: usize) -> Mark {
-        let mut answered = self.marks.iter().filter(|mark| mark.answers > limit);
-        answered.next().copied().unwrap_or(Mark::START)
+        let mut responded = self.marks.iter().filter(|mark| mark.responses > limit);
+        responded.next().copied().unwrap_or(Mark::START)
     }
 
     /// Whether a `quit` was accepted up to the end of this line.
@@ -90,26 +90,26 @@ impl Script {
             .any(|line| line.closes && line.script <= mark.script)
     }
 
-    fn add_line(&mut self, line: &str, answer: &str) -> Result<(), AllocError> {
+    fn add_line(&mut self, line: &str, response: &str) -> Result<(), AllocError> {
         self.bytes.extend_from_slice(line.as_bytes())?;
         self.bytes.push(b'\n')?;
-        self.add_answer(line, answer)
+        self.add_response(line, response)
     }
 
-    fn add_numbered(&mut self, times: usize, line: &str, answer: &str) -> Result<(), AllocError> {
+    fn add_numbered(&mut self, times: usize, line: &str, response: &str) -> Result<(), AllocError> {
         for number in 1..=times {
             let numbered = with_number(self.alloc, line, number)?;
-            self.add_line(numbered.as_str(), answer)?;
+            self.add_line(numbered.as_str(), response)?;
         }
         Ok(())
     }
 
-    fn add_answer(&mut self, line: &str, answer: &str) -> Result<(), AllocError> {
-        self.answers.push_str(answer)?;
+    fn add_response(&mut self, line: &str, response: &str) -> Result<(), AllocError> {
+        self.responses.push_str(response)?;
         self.marks.push(Mark {
             script: self.bytes.len(),
-            answers: self.answers.len(),
-            closes: line == "quit" && answer.starts_with("00,"),
+            responses: self.responses.len(),
+            closes: line == "quit" && response.starts_with("00,"),
         })?;
         Ok(())
     }

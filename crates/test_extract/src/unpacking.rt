@@ -76,7 +76,7 @@ fn is_reported(
     let mut host = MemoryHost::new(alloc);
     assert!(rt; host.make_folder("out").is_ok());
     host.fail_at(call);
-    let verdict = unpacker.answer(NAME, Some(image), &mut host, &mut buffer)?;
+    let verdict = unpacker.process_file(NAME, Some(image), &mut host, &mut buffer)?;
     assert!(rt; verdict == Verdict::Failed);
     let line = format!(in alloc; "d64sh: {path}: cannot be written\n")?;
     assert!(rt; buffer.complaint.as_slice() == line.as_bytes());

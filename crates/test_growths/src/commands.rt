@@ -52,8 +52,8 @@ fn change(bench: &Bench, name: &str, image: &mut Image) -> Result<End, Fail> {
     let before = image.try_clone(bench.alloc())?;
     let mut patch = Patch::new(bench.alloc());
     bench.begin();
-    let answer = d64_dos::apply(image, &mut patch, &command);
-    Ok(end_of(answer, image, &patch, &before))
+    let outcome = d64_dos::apply(image, &mut patch, &command);
+    Ok(end_of(outcome, image, &patch, &before))
 }
 
 pub fn apply(bench: &Bench, name: &str) -> Result<End, Fail> {
@@ -61,8 +61,8 @@ pub fn apply(bench: &Bench, name: &str) -> Result<End, Fail> {
 }
 
 /// Returns how a command ended, by its result, what it was lent, and the image before.
-fn end_of(answer: Result<Reply, Refusal>, image: &Image, patch: &Patch, before: &Image) -> End {
-    match answer {
+fn end_of(outcome: Result<Reply, Refusal>, image: &Image, patch: &Patch, before: &Image) -> End {
+    match outcome {
         Ok(_) => End::Changed(changed_blocks(image, before)),
         Err(Refusal::Memory) => End::out_of_memory(
             same(image, before) && patch.len() == 0,

@@ -31,7 +31,7 @@ fn play(
 ) -> End {
     let mut script = line.as_bytes();
     bench.begin();
-    let answer = cmd_shell::run(
+    let outcome = cmd_shell::run(
         bench.alloc(),
         &mut script,
         written,
@@ -40,7 +40,7 @@ fn play(
         &mut beside.session,
     );
     let is_kept = hosts::is_as_it_was(host) && beside.is_as_it_was();
-    end_of(answer, written.as_slice(), is_kept)
+    end_of(outcome, written.as_slice(), is_kept)
 }
 
 pub fn run(bench: &Bench, line: &str) -> Result<End, Fail> {
@@ -52,8 +52,8 @@ pub fn run(bench: &Bench, line: &str) -> Result<End, Fail> {
 
 /// Returns how a script of one line ended, by its result, what it wrote, and whether host and
 /// session are as they were.
-fn end_of(answer: Result<Outcome, ShellFault>, written: &[u8], is_kept: bool) -> End {
-    match answer {
+fn end_of(outcome: Result<Outcome, ShellFault>, written: &[u8], is_kept: bool) -> End {
+    match outcome {
         Ok(
             Outcome {
                 accepted: 1,
@@ -75,21 +75,21 @@ pub fn petcat_run(bench: &Bench) -> Result<End, Fail> {
     let mut written = Vec::with_capacity(bench.alloc(), ROOM)?;
     let mut input = PROGRAM.as_slice();
     bench.begin();
-    let answer = cmd_basic::petcat_run(bench.alloc(), &mut input, &mut written);
-    Ok(end_of_tool(answer, written.as_slice()))
+    let outcome = cmd_basic::petcat_run(bench.alloc(), &mut input, &mut written);
+    Ok(end_of_tool(outcome, written.as_slice()))
 }
 
 pub fn crunch_run(bench: &Bench) -> Result<End, Fail> {
     let mut written = Vec::with_capacity(bench.alloc(), ROOM)?;
     let mut input = TEXT.as_slice();
     bench.begin();
-    let answer = cmd_basic::crunch_run(bench.alloc(), START, &mut input, &mut written);
-    Ok(end_of_tool(answer, written.as_slice()))
+    let outcome = cmd_basic::crunch_run(bench.alloc(), START, &mut input, &mut written);
+    Ok(end_of_tool(outcome, written.as_slice()))
 }
 
 /// Returns how a tool ended, by its result and what it wrote.
-fn end_of_tool(answer: Result<(), ToolFault>, written: &[u8]) -> End {
-    match answer {
+fn end_of_tool(outcome: Result<(), ToolFault>, written: &[u8]) -> End {
+    match outcome {
         Ok(()) => End::Made(written.len()),
         Err(ToolFault::Memory(_)) => {
             End::out_of_memory(written.is_empty(), "something was written")

@@ -84,8 +84,8 @@ impl Beside {
     }
 
     /// Returns how a command ended, by its result.
-    fn end_of(&mut self, answer: Result<Reply, Refusal>) -> End {
-        match answer {
+    fn end_of(&mut self, outcome: Result<Reply, Refusal>) -> End {
+        match outcome {
             Ok(_) if self.has_one_more() => {
                 End::Changed(changed_blocks(self.session.image(), self.twin.image()))
             }
@@ -119,8 +119,8 @@ fn make_named(bench: &Bench, name: &str, beside: &mut Beside) -> Result<End, Fai
     let command = command_of(bench.alloc(), name)?;
     within(beside.session.image(), &command)?;
     bench.begin();
-    let answer = beside.session.run(&command);
-    Ok(beside.end_of(answer))
+    let outcome = beside.session.run(&command);
+    Ok(beside.end_of(outcome))
 }
 
 pub fn run(bench: &Bench, name: &str) -> Result<End, Fail> {

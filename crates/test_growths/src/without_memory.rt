@@ -79,9 +79,9 @@ fn write_again(bench: &Bench, image: &mut Image, patch: &mut Patch) -> Result<En
     patch.write(image, first, &[1; 256])?;
     let again = block_in(image, 1, 0)?;
     bench.begin();
-    let answer = patch.write(image, again, &[2; 256]);
+    let outcome = patch.write(image, again, &[2; 256]);
     Ok(End::returned(
-        answer.is_ok() && image.holds(first) && image.sector(first)[0] == 2 && patch.len() == 1,
+        outcome.is_ok() && image.holds(first) && image.sector(first)[0] == 2 && patch.len() == 1,
     ))
 }
 

@@ -48,7 +48,7 @@ impl Writer {
 
 /// Returns how a writer ended, by its result, what it was lent, and the image before.
 fn end_of(
-    answer: Result<(), AllocError>,
+    outcome: Result<(), AllocError>,
     image: &mut Image,
     patch: &mut Patch,
     before: &Image,
@@ -60,7 +60,7 @@ fn end_of(
     if !same(image, before) {
         return End::Wrong("the image with the patch put back is not as it was");
     }
-    match answer {
+    match outcome {
         Ok(()) => End::Changed(changed),
         Err(_) => End::OutOfMemory,
     }
@@ -128,6 +128,6 @@ pub fn written(bench: &Bench, writer: Writer) -> Result<End, Fail> {
     let mut image = disk(bench.alloc())?;
     let before = image.try_clone(bench.alloc())?;
     let mut patch = fresh(bench.alloc(), &image);
-    let answer = write(bench, writer, &mut image, &mut patch)?;
-    Ok(end_of(answer, &mut image, &mut patch, &before))
+    let outcome = write(bench, writer, &mut image, &mut patch)?;
+    Ok(end_of(outcome, &mut image, &mut patch, &before))
 }

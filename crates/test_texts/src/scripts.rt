@@ -1,6 +1,6 @@
 //! The text of scripts and of their output.
 
-use host_storage::{InputStream, write_answer};
+use host_storage::{InputStream, write_bytes};
 use script_text::dump::dump;
 use script_text::held_line::HeldLine;
 use script_text::number::number;
@@ -195,9 +195,9 @@ fn reads_whole_scripts(rt: HostRuntime) -> Result<(), Fail> {
 }
 
 #[test]
-fn writes_whole_answers(rt: HostRuntime) -> Result<(), Fail> {
+fn writes_all_bytes(rt: HostRuntime) -> Result<(), Fail> {
     let mut written = Vec::new(rt.alloc());
-    write_answer(&mut written, b"00, OK,00,00\n")?;
+    write_bytes(&mut written, b"00, OK,00,00\n")?;
     assert_eq!(rt; written.as_slice(), b"00, OK,00,00\n".as_slice());
     Ok(())
 }
@@ -206,6 +206,6 @@ fn writes_whole_answers(rt: HostRuntime) -> Result<(), Fail> {
 fn writes_what_a_writer_has_room_for(rt: HostRuntime) {
     let mut room = [0; 5];
     let mut writer = room.as_mut_slice();
-    assert!(rt; write_answer(&mut writer, b"00, OK").is_err());
+    assert!(rt; write_bytes(&mut writer, b"00, OK").is_err());
     assert_eq!(rt; room, *b"00, O");
 }

@@ -39,7 +39,7 @@ pub struct Call<'a> {
     pub fails_at_flush: bool,
     pub faults_limit: usize,
     /// The expected output.
-    pub answers: &'a [u8],
+    pub responses: &'a [u8],
     pub faults: &'a [u8],
     pub ending: Ending,
 }
@@ -64,11 +64,11 @@ impl<'a> Call<'a> {
             return None;
         }
         let call = Call::whole(run, at_most);
-        let answers = from(call.answers, mark.answers);
+        let responses = from(call.responses, mark.responses);
         Some(Call {
             given: from(call.given, mark.script),
-            answers,
-            ending: Ending::Counted(counts_of(answers)),
+            responses,
+            ending: Ending::Counted(counts_of(responses)),
             ..call
         })
     }
@@ -76,7 +76,7 @@ impl<'a> Call<'a> {
     /// Returns the call on a whole script, on streams that do not fail.
     fn whole(run: &'a Run, at_most: usize) -> Call<'a> {
         let options = &run.options;
-        let answers = run.script.answers.as_bytes();
+        let responses = run.script.responses.as_bytes();
         Call {
             words: options.words.as_ref().map(|words| words.as_slice()),
             given: run.script.bytes.as_slice(),
@@ -86,9 +86,9 @@ impl<'a> Call<'a> {
             when_full: options.when_full,
             fails_at_flush: options.fails_at_flush,
             faults_limit: options.faults_limit.unwrap_or(usize::MAX),
-            answers,
+            responses,
             faults: options.faults.as_bytes(),
-            ending: ending_of(options, answers),
+            ending: ending_of(options, responses),
         }
     }
 
@@ -96,16 +96,16 @@ impl<'a> Call<'a> {
     /// ended by then are run.
     fn with_failing_reader(self, script: &Script, came: usize) -> Call<'a> {
         let mark = script.ended_by(came);
-        let answers = up_to(self.answers, mark.answers);
+        let responses = up_to(self.responses, mark.responses);
         let ending = match self.ending {
-            Ending::Counted(_) if script.is_closed(mark) => Ending::Counted(counts_of(answers)),
+            Ending::Counted(_) if script.is_closed(mark) => Ending::Counted(counts_of(responses)),
             Ending::Counted(_) => Ending::ReadFault,
             other => other,
         };
         Call {
             given: up_to(self.given, came),
             reader_fails: true,
-            answers,
+            responses,
             ending,
             ..self
         }
@@ -115,12 +115,12 @@ impl<'a> Call<'a> {
     /// is written.
     fn with_full_writer(self, limit: usize) -> Call<'a> {
         let ending = match self.ending {
-            Ending::Counted(_) if limit < self.answers.len() => Ending::WriteFault,
+            Ending::Counted(_) if limit < self.responses.len() => Ending::WriteFault,
             other => other,
         };
         Call {
             limit,
-            answers: up_to(self.answers, limit),
+            responses: up_to(self.responses, limit),
             ending,
             ..self
         }
@@ -150,7 +150,7 @@ pub fn place_count(run: &Run) -> usize {
     if run.options.reader_fails == Place::Anywhere {
         run.script.bytes.len().saturating_add(1)
     } else if run.options.writer_stops == Place::Anywhere {
-        run.script.answers.len()
+        run.script.responses.len()
     } else {
         1
     }
@@ -165,24 +165,24 @@ fn from(bytes: &[u8], count: usize) -> &[u8] {
 }
 
 /// Returns how a script ends whose reader and writer do not fail.
-fn ending_of(options: &RunOptions, answers: &[u8]) -> Ending {
+fn ending_of(options: &RunOptions, responses: &[u8]) -> Ending {
     if options.words.is_some() {
         Ending::Status(options.status)
     } else if options.is_past_limits {
         Ending::ReadFault
     } else {
-        Ending::Counted(counts_of(answers))
+        Ending::Counted(counts_of(responses))
     }
 }
 
 /// Returns how many lines are accepted and refused in this output: a status line begins with two
 /// digits and a comma, and accepts if they are 00 or 01.
-fn counts_of(answers: &[u8]) -> Outcome {
+fn counts_of(responses: &[u8]) -> Outcome {
     let mut outcome = Outcome {
         accepted: 0,
         refused: 0,
     };
-    for line in answers.split(|byte| *byte == b'\n') {
+    for line in responses.split(|byte| *byte == b'\n') {
         match line {
             [b'0', b'0' | b'1', b',', ..] => {
                 outcome.accepted = outcome.accepted.saturating_add(1);

@@ -34,8 +34,8 @@ impl Differences {
         found: &str,
         wanted: &str,
     ) -> Result<(), AllocError> {
-        let told = format!(in self.alloc; "line {line}: {what}: {found}, not {wanted}")?;
-        self.lines.push(told)?;
+        let difference = format!(in self.alloc; "line {line}: {what}: {found}, not {wanted}")?;
+        self.lines.push(difference)?;
         Ok(())
     }
 
@@ -50,8 +50,8 @@ impl Differences {
         if found == wanted {
             return Ok(());
         }
-        let told = format!(in self.alloc; "line {line}: {what}: {found:?}, not {wanted:?}")?;
-        self.lines.push(told)?;
+        let difference = format!(in self.alloc; "line {line}: {what}: {found:?}, not {wanted:?}")?;
+        self.lines.push(difference)?;
         Ok(())
     }
 
@@ -87,10 +87,10 @@ impl Differences {
         let pairs = found.iter().zip(wanted).enumerate();
         for (place, (one, other)) in pairs {
             if one != other {
-                let told = format!(in self.alloc;
+                let difference = format!(in self.alloc;
                     "line {line}: {what}: byte {place} is {one:02x}, not {other:02x}"
                 )?;
-                self.lines.push(told)?;
+                self.lines.push(difference)?;
                 return Ok(());
             }
         }

@@ -3,8 +3,8 @@ use Rattle.script_text.specs.RawLines.{lines_of, text_of, is_skipped}
 use Rattle.script_text.specs.declared.raw_lines.RawLines.{RawLines}
 use Rattle.script_text.proofs.LineCuts.{length-lines_of}
 use Rattle.cbm_text.specs.Program.{word}
-use Rattle.cbm_text.specs.BasicText.{IsLine, HasFault, IsFileOf, IsFirstBasicFault, IsBasicOutOfMemory, TellsLine}
-use Rattle.cbm_text.proofs.TextPrograms.{ProgramSoFar, so_far_nothing, so_far_skipped, so_far_line, so_far_fault, so_far_whole, tells_line}
+use Rattle.cbm_text.specs.BasicText.{IsLine, HasFault, IsFileOf, IsFirstBasicFault, IsBasicOutOfMemory, NamesLine}
+use Rattle.cbm_text.proofs.TextPrograms.{ProgramSoFar, so_far_nothing, so_far_skipped, so_far_line, so_far_fault, so_far_whole, names_line}
 use Rattle.cbm_text.proofs.crunching.crunch.Goals as goal
 
 pub loop-raw-init : goal.loop-raw-init
@@ -33,7 +33,7 @@ returns-in_err-at-clause-fault c =
     let raw = c.in-Some.raw.now in
     let fault = c.in_err-at.field-0.0 in
     let kept : is_skipped (text_of raw) ≡ false = ap (λ (w : List ℕ). is_skipped w) (sym c.text-line.ensures) ∙ sym c.is_skipped.ensures ∙ c.if-is_skipped.false in
-    let told : IsBasicOutOfMemory fault ⊎ IsFirstBasicFault c.args.start text fault =
+    let known : IsBasicOutOfMemory fault ⊎ IsFirstBasicFault c.args.start text fault =
     elim c.in_err-at.ensures.fault [
       | inl memory ↦ inl memory
       | inr here ↦ inr (so_far_fault c.args.start c.loop-raw.at c.loop-raw.place text c.loop-raw.file.items raw _ _ fault c.loop-raw.invariant c.in-Some.ensures.steps kept
@@ -47,7 +47,7 @@ returns-in_err-at-clause-place c =
     let raw = c.in-Some.raw.now in
     let fault = c.in_err-at.field-0.0 in
     let within : c.loop-raw.place + 1 ≤ length (lines_of text) = omega (arith, c.loop-raw.invariant.few, ap length c.in-Some.ensures.steps) in
-    let told : TellsLine text fault = tells_line c.loop-raw.at (c.loop-raw.place + 1) text c.text-line.result.now fault (omega arith) within c.in_err-at.ensures.fault in
+    let known : NamesLine text fault = names_line c.loop-raw.at (c.loop-raw.place + 1) text c.text-line.result.now fault (omega arith) within c.in_err-at.ensures.fault in
     search rules
 
 pub loop-raw-preserved : goal.loop-raw-preserved

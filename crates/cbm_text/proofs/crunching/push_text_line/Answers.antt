@@ -12,7 +12,7 @@ use Rattle.cbm_text.proofs.crunching.push_text_line.Goals as goal
 pub returns-in_err-number-clause-fault : goal.returns-in_err-number-clause-fault
 returns-in_err-number-clause-fault c =
     let fault = c.in_err-number.field-0.0 in
-    let told : IsBasicOutOfMemory fault ⊎ HasFault c.args.at c.args.place c.args.text.now fault = inr (c.in_err-number.ensures c.args.at) in
+    let known : IsBasicOutOfMemory fault ⊎ HasFault c.args.at c.args.place c.args.text.now fault = inr (c.in_err-number.ensures c.args.at) in
     search rules
 
 pub returns-clause-line : goal.returns-clause-line

@@ -2,7 +2,7 @@ use Rattle.std.proofs.Common.{ap, rules, ◌∙◌}
 use Rattle.std.proofs.lemmas.Result.{IfOk-weaker}
 use Rattle.cmd_catalogue.specs.Catalogue.{catalogue_heading, catalogue_printing, catalogue_rule}
 use Rattle.cmd_catalogue.specs.declared.catalogue_printer.CataloguePrinter.{CataloguePrinter}
-use Rattle.program_surveys.specs.Answers.{by_rule}
+use Rattle.program_surveys.specs.FileOutcomes.{by_rule}
 use Rattle.program_surveys.specs.SurveyFiles.{files_in, survey_files_of}
 use Rattle.program_surveys.proofs.Quiet.{report_is_quiet}
 use Rattle.program_surveys.proofs.SurveyRuns.{survey_of}

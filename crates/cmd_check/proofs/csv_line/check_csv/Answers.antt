@@ -18,4 +18,4 @@ returns c =
     let doubted = c.in_ok-push_doubts.ensures ∙ ap (λ (list : List Doubt). before ++ doubt_names_text list ∷ []) c.doubts.ensures in
     let ended = row_ended c.args.out.items _ _ _ (check_fields dump name) (option_map encode_lower digest) (doubt_names_text (doubts dump.image)) []
     c.in_ok-put_dump_row.ensures c.in_ok-push_digest.ensures doubted in
-    IfOk-weaker c.end_row.result _ (λ text. text.items ≡ c.args.out.items ++ check_row dump name digest) (λ text told. told ∙ ended) c.end_row.ensures
+    IfOk-weaker c.end_row.result _ (λ text. text.items ≡ c.args.out.items ++ check_row dump name digest) (λ text known. known ∙ ended) c.end_row.ensures

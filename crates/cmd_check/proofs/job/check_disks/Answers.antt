@@ -2,7 +2,7 @@ use Rattle.std.proofs.Common.{ap, ap₂, rules, ◌∙◌}
 use Rattle.std.proofs.lemmas.Result.{IfOk-weaker}
 use Rattle.cmd_check.specs.Check.{check_printing, check_rule, heading_of as check_heading}
 use Rattle.cmd_check.specs.declared.check_printer.CheckPrinter.{CheckPrinter}
-use Rattle.program_surveys.specs.Answers.{by_rule}
+use Rattle.program_surveys.specs.FileOutcomes.{by_rule}
 use Rattle.program_surveys.specs.SurveyFiles.{files_in, survey_files_of}
 use Rattle.program_surveys.proofs.Quiet.{report_is_quiet}
 use Rattle.program_surveys.proofs.SurveyRuns.{survey_of}

@@ -17,13 +17,13 @@ returns c =
     let listed : c.as_slice.result.now ≡ differing_blocks old.image new.image = search rules in
     let listed_codes : c.as_slice-2.result.now ≡ changed_codes old new = search rules in
     let files = c.in_ok-files.files.items in
-    let told_blocks : c.in_ok-blocks.blocks.items ≡ files ++ printed_changes form blocks =
+    let known_blocks : c.in_ok-blocks.blocks.items ≡ files ++ printed_changes form blocks =
     c.in_ok-blocks.ensures
     ∙ ap (λ (reported : List ℕ). files ++ reported) (bytes_printed form c.as_slice.result.now ∙ ap (λ (bs : List ℕ). printed_changes form (where_any BlocksChanged bs)) listed) in
-    let told_codes = codes_printed form c.as_slice-2.result.now ∙ ap (λ (bs : List ℕ). printed_changes form (where_any CodesChanged bs)) listed_codes in
+    let known_codes = codes_printed form c.as_slice-2.result.now ∙ ap (λ (bs : List ℕ). printed_changes form (where_any CodesChanged bs)) listed_codes in
     IfOk-weaker c.print_blocks-2.result _ (λ text. text.items ≡ c.args.out.items ++ printed_changes form (changes old new))
     (λ text reported.
     then_printed form _ _ _ (disk_change old new) (slots ++ (blocks ++ read)) c.in_ok-disk.ensures
     (then_printed form _ _ _ slots (blocks ++ read) c.in_ok-files.ensures
-    (then_printed form _ _ _ blocks read told_blocks (reported ∙ ap (λ (list : List ℕ). c.in_ok-blocks.blocks.items ++ list) told_codes))))
+    (then_printed form _ _ _ blocks read known_blocks (reported ∙ ap (λ (list : List ℕ). c.in_ok-blocks.blocks.items ++ list) known_codes))))
     c.print_blocks-2.ensures

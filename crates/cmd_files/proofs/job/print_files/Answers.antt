@@ -1,6 +1,6 @@
 use Rattle.std.proofs.Common.{rules}
 use Rattle.cmd_files.specs.Files.{files_printing, files_rule, file_heading_of as files_heading}
-use Rattle.program_surveys.specs.Answers.{by_rule}
+use Rattle.program_surveys.specs.FileOutcomes.{by_rule}
 use Rattle.program_surveys.specs.SurveyFiles.{files_in, survey_files_of}
 use Rattle.program_surveys.proofs.Quiet.{report_is_quiet}
 use Rattle.program_surveys.proofs.SurveyRuns.{survey_of}

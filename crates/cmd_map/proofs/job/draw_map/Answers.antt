@@ -1,7 +1,7 @@
 use Rattle.std.proofs.Common.{rules}
 use Rattle.std.specs.Prelude.{[], ◌∷◌, string_bytes}
 use Rattle.cmd_map.specs.Pictures.{map_printing, map_rule}
-use Rattle.program_surveys.specs.Answers.{by_rule}
+use Rattle.program_surveys.specs.FileOutcomes.{by_rule}
 use Rattle.program_surveys.specs.SurveyFiles.{Named, files_in}
 use Rattle.program_surveys.proofs.Quiet.{report_is_quiet}
 use Rattle.program_surveys.proofs.SurveyRuns.{survey_of}

@@ -15,7 +15,7 @@ returns-in-Err-clause-none g c =
     let opened = c.in-Err.ensures in (
       Err c.in-Err.fault,
       record {
-        answer = fetches_none (g.H.Host.state c.args.host.now).files c.args.name.now session_limit c.in-Err.fault opened.answer;
+        response = fetches_none (g.H.Host.state c.args.host.now).files c.args.name.now session_limit c.in-Err.fault opened.returned;
         bytes = tt;
         counted = opened.counted;
         kept = opened.files_kept;
@@ -30,8 +30,8 @@ returns-in-Ok-resume_from-clause-session g c =
     let read = c.in-Ok-resume_from.ensures.session in (
       read.0,
       record {
-        answer = fetches_read (g.H.Host.state c.args.host.now).files c.args.name.now session_limit (g.H.File.Read.remaining c.in-Ok.file) (file_of c.in-Ok-resume_from.session)
-            opened.answer read.3 read.2;
+        response = fetches_read (g.H.Host.state c.args.host.now).files c.args.name.now session_limit (g.H.File.Read.remaining c.in-Ok.file) (file_of c.in-Ok-resume_from.session)
+            opened.returned read.3 read.2;
         bytes = read.1;
         counted = opened.counted;
         kept = opened.files_kept;
@@ -45,8 +45,8 @@ returns-in-Err-Resume-clause-none g c =
     let read = subst (λ (fault : SessionReadFault). IsReadFault (g.H.File.Read.remaining c.in-Ok.file) session_limit fault) c.in-Err-Resume.field-0-is c.in-Err-Resume.ensures.fault in (
       Ok read.0,
       record {
-        answer = fetches_read (g.H.Host.state c.args.host.now).files c.args.name.now session_limit (g.H.File.Read.remaining c.in-Ok.file) read.0
-            opened.answer read.2 read.3;
+        response = fetches_read (g.H.Host.state c.args.host.now).files c.args.name.now session_limit (g.H.File.Read.remaining c.in-Ok.file) read.0
+            opened.returned read.2 read.3;
         bytes = read.1;
         counted = opened.counted;
         kept = opened.files_kept;
@@ -60,8 +60,8 @@ returns-in-Err-TooLong-clause-none g c =
     let opened = c.in-Ok.ensures in (
       Err TooLong,
       record {
-        answer = fetches_too_long (g.H.Host.state c.args.host.now).files c.args.name.now session_limit (g.H.File.Read.remaining c.in-Ok.file)
-            opened.answer (subst (λ (fault : SessionReadFault). IsReadFault (g.H.File.Read.remaining c.in-Ok.file) session_limit fault) c.in-Err-TooLong.field-0-is c.in-Err-TooLong.ensures.fault);
+        response = fetches_too_long (g.H.Host.state c.args.host.now).files c.args.name.now session_limit (g.H.File.Read.remaining c.in-Ok.file)
+            opened.returned (subst (λ (fault : SessionReadFault). IsReadFault (g.H.File.Read.remaining c.in-Ok.file) session_limit fault) c.in-Err-TooLong.field-0-is c.in-Err-TooLong.ensures.fault);
         bytes = tt;
         counted = opened.counted;
         kept = opened.files_kept;
@@ -75,7 +75,7 @@ returns-clause-none g c =
     let opened = c.in-Ok.ensures in (
       Err Device,
       record {
-        answer = fetches_failed (g.H.Host.state c.args.host.now).files c.args.name.now session_limit Device tt;
+        response = fetches_failed (g.H.Host.state c.args.host.now).files c.args.name.now session_limit Device tt;
         bytes = tt;
         counted = c.count_failed_read.ensures.counted ∙ ap one_more_failure opened.counted;
         kept = c.count_failed_read.ensures.files_kept ∙ opened.files_kept;

@@ -12,8 +12,8 @@ use Rattle.d64_dos.proofs.directory.listing.Goals as goal
 pub returns-in_err-walk-clause-refused : goal.returns-in_err-walk-clause-refused
 returns-in_err-walk-clause-refused c =
     let fault = c.in_err-walk.field-0.0 in
-    let told : refused_by c.from_residual.result ≡ Some (Directory fault) = search rules in
-    told ∙ sym (not_readable c.args.image.now fault c.in_err-walk.ensures.conditions)
+    let known : refused_by c.from_residual.result ≡ Some (Directory fault) = search rules in
+    known ∙ sym (not_readable c.args.image.now fault c.in_err-walk.ensures.conditions)
 
 pub returns-in_err-from_slice-clause-refused : goal.returns-in_err-from_slice-clause-refused
 returns-in_err-from_slice-clause-refused c =

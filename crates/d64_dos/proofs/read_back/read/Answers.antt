@@ -9,8 +9,8 @@ use Rattle.d64_dos.proofs.read_back.read.Goals as goal
 pub returns-in_err-directory-clause-refused : goal.returns-in_err-directory-clause-refused
 returns-in_err-directory-clause-refused c =
     let fault = c.in_err-directory.field-0.0 in
-    let told : refused_by c.from_residual.result ≡ Some (Directory fault) = search rules in
-    told ∙ sym (refused_pattern c.args.image.now c.args.pattern.now fault c.in_err-directory.ensures.conditions)
+    let known : refused_by c.from_residual.result ≡ Some (Directory fault) = search rules in
+    known ∙ sym (refused_pattern c.args.image.now c.args.pattern.now fault c.in_err-directory.ensures.conditions)
 
 pub returns-in_default-clause-refused : goal.returns-in_default-clause-refused
 returns-in_default-clause-refused c =
@@ -21,8 +21,8 @@ pub returns-in_err-bytes-clause-refused : goal.returns-in_err-bytes-clause-refus
 returns-in_err-bytes-clause-refused c =
     let slot = named_slot c.args.image.now c.in_ok-directory.directory c.args.pattern.now c.in-Some.entry c.in_ok-directory.ensures.image c.in-Some.ensures in
     let fault = c.in_err-bytes.field-0.0 in
-    let told : refused_by c.from_residual-in_err-bytes.result ≡ cause_of (of_read_fault fault) = search rules in
-    told
+    let known : refused_by c.from_residual-in_err-bytes.result ≡ cause_of (of_read_fault fault) = search rules in
+    known
     ∙ refused_entry c.args.image.now c.args.pattern.now c.in-Some.entry fault c.in_ok-directory.ensures.conditions slot.number slot.bytes
     c.in_err-bytes.ensures.refused
 

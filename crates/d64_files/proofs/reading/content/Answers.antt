@@ -9,8 +9,8 @@ use Rattle.d64_files.proofs.reading.content.Goals as goal
 pub returns-in_err-directory-clause-refused : goal.returns-in_err-directory-clause-refused
 returns-in_err-directory-clause-refused c =
     let fault = c.in_err-directory.field-0.0 in
-    let told : read_refused_by c.from_residual.result ≡ Some (Directory fault) = search rules in
-    told ∙ refused_directory c.args.image.now c.args.slot fault c.in_err-directory.ensures.conditions
+    let known : read_refused_by c.from_residual.result ≡ Some (Directory fault) = search rules in
+    known ∙ refused_directory c.args.image.now c.args.slot fault c.in_err-directory.ensures.conditions
 
 pub returns-in-None-clause-refused : goal.returns-in-None-clause-refused
 returns-in-None-clause-refused c =

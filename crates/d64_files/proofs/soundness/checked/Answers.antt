@@ -28,34 +28,34 @@ files_fault image directory fault counts same first = file_fault_first image fau
 pub returns-then-not-counts_fit-clause-first : goal.returns-then-not-counts_fit-clause-first
 returns-then-not-counts_fit-clause-first c =
     sound_first c.args.image.now WrongCounts (wrong_counts c.args.image.now (λ counts.
-    let told = c.counts_fit.ensures.1 counts in
-    let f : true ≡ false = sym told ∙ c.if-not-counts_fit.true in
+    let known = c.counts_fit.ensures.1 counts in
+    let f : true ≡ false = sym known ∙ c.if-not-counts_fit.true in
     cc))
 
 pub returns-in_err-directory-clause-verdict : goal.returns-in_err-directory-clause-verdict
 returns-in_err-directory-clause-verdict c =
     let counts = c.counts_fit.ensures.0 c.if-not-counts_fit.false in
-    let told = directory_fault c.args.image.now c.in_err-directory.field-0.0 counts c.in_err-directory.ensures.conditions in
+    let known = directory_fault c.args.image.now c.in_err-directory.field-0.0 counts c.in_err-directory.ensures.conditions in
     search rules
 
 pub returns-in_err-directory-clause-first : goal.returns-in_err-directory-clause-first
 returns-in_err-directory-clause-first c =
     let fault = c.in_err-directory.field-0.0 in
     let counts = c.counts_fit.ensures.0 c.if-not-counts_fit.false in
-    let told = sound_first c.args.image.now fault (directory_fault c.args.image.now fault counts c.in_err-directory.ensures.conditions) in
+    let known = sound_first c.args.image.now fault (directory_fault c.args.image.now fault counts c.in_err-directory.ensures.conditions) in
     search rules
 
 pub returns-in_err-blocks-clause-verdict : goal.returns-in_err-blocks-clause-verdict
 returns-in_err-blocks-clause-verdict c =
     let counts = c.counts_fit.ensures.0 c.if-not-counts_fit.false in
-    let told = files_fault c.args.image.now _ c.in_err-blocks.field-0.0 counts c.in_ok-directory.ensures.image c.in_err-blocks.ensures in
+    let known = files_fault c.args.image.now _ c.in_err-blocks.field-0.0 counts c.in_ok-directory.ensures.image c.in_err-blocks.ensures in
     search rules
 
 pub returns-in_err-blocks-clause-first : goal.returns-in_err-blocks-clause-first
 returns-in_err-blocks-clause-first c =
     let fault = c.in_err-blocks.field-0.0 in
     let counts = c.counts_fit.ensures.0 c.if-not-counts_fit.false in
-    let told = sound_first c.args.image.now fault (files_fault c.args.image.now _ fault counts c.in_ok-directory.ensures.image c.in_err-blocks.ensures) in
+    let known = sound_first c.args.image.now fault (files_fault c.args.image.now _ fault counts c.in_ok-directory.ensures.image c.in_err-blocks.ensures) in
     search rules
 
 pub returns-then-none_is_free-clause-verdict : goal.returns-then-none_is_free-clause-verdict
@@ -75,8 +75,8 @@ returns-else-none_is_free-clause-verdict c =
     let counts : CountsFit c.args.image.now = c.counts_fit.ensures.0 c.if-not-counts_fit.false in
     let owned = owned_of c.args.image.now c.in_ok-directory.directory c.in_ok-blocks.blocks c.in_ok-directory.ensures.image c.in_ok-blocks.ensures in
     marked_free c.args.image.now counts owned.0 (λ all.
-    let told = c.none_is_free.ensures.1 (members_too c.args.image.now (owned_blocks c.args.image.now) c.in_ok-blocks.blocks owned.1 all) in
-    let f : true ≡ false = sym told ∙ c.if-none_is_free.false in
+    let known = c.none_is_free.ensures.1 (members_too c.args.image.now (owned_blocks c.args.image.now) c.in_ok-blocks.blocks owned.1 all) in
+    let f : true ≡ false = sym known ∙ c.if-none_is_free.false in
     cc)
 
 pub returns-else-none_is_free-clause-first : goal.returns-else-none_is_free-clause-first

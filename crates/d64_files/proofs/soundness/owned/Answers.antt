@@ -19,11 +19,11 @@ returns-clause-first c =
 
 pub returns-in_err-of-clause-verdict : goal.returns-in_err-of-clause-verdict
 returns-in_err-of-clause-verdict c =
-    let told : IsFirstFault c.args.image.now 2 5 c.in_err-of.field-0.0 = dir_fault_first c.args.image.now c.in_err-of.field-0.0 c.in_err-of.ensures.conditions in
+    let known : IsFirstFault c.args.image.now 2 5 c.in_err-of.field-0.0 = dir_fault_first c.args.image.now c.in_err-of.field-0.0 c.in_err-of.ensures.conditions in
     search rules
 
 pub returns-in_err-of-clause-first : goal.returns-in_err-of-clause-first
 returns-in_err-of-clause-first c =
     let fault = c.in_err-of.field-0.0 in
-    let told = owning_first c.args.image.now fault (dir_fault_first c.args.image.now fault c.in_err-of.ensures.conditions) in
+    let known = owning_first c.args.image.now fault (dir_fault_first c.args.image.now fault c.in_err-of.ensures.conditions) in
     search rules

@@ -12,9 +12,9 @@ loop-index-init c = refl
 tested : (image : List (List ℕ)) (name : List ℕ) (block index slot : ℕ) (entry : EntryView) (result : Bool) → index < 8 → slot ≡ index
     → entry ≡ entry_of image (slot, cell (sector_at image block) (slot % 8)) → result ≡ has_name name entry.bytes
     → has_name name (cell (sector_at image block) index) ≡ result
-tested image name block index slot entry result small same is told =
+tested image name block index slot entry result small same is known =
     let place : slot % 8 ≡ index = omega arith in
-    sym (told ∙ ap (λ (e : EntryView). has_name name e.bytes) is ∙ ap (λ (n : ℕ). has_name name (cell (sector_at image block) n)) place)
+    sym (known ∙ ap (λ (e : EntryView). has_name name e.bytes) is ∙ ap (λ (n : ℕ). has_name name (cell (sector_at image block) n)) place)
 
 pub returns-then-has_name : goal.returns-then-has_name
 returns-then-has_name c =

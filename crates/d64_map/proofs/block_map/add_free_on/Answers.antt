@@ -5,7 +5,7 @@ use Rattle.d64_image.specs.declared.block.TheConstants.{BLOCKS}
 use Rattle.d64_image.specs.Block.{sectors_on, first_block}
 use Rattle.d64_image.specs.BlockSet.{is_given}
 use Rattle.d64_image.proofs.Pairs.{pair_at-counted}
-use Rattle.d64_map.proofs.FreeBlocks.{bit_tells}
+use Rattle.d64_map.proofs.FreeBlocks.{bit_decides}
 use Rattle.d64_map.proofs.FreeTracks.{given_within, track_added}
 use Rattle.d64_map.proofs.Maps.{sectors_few}
 use Rattle.d64_map.proofs.block_map.add_free_on.Goals as goal
@@ -25,5 +25,5 @@ returns c =
     (λ s held.
     let pair = pair_at-counted track s c.first_block.ensures.range.0 c.first_block.ensures.range.1 held in
     ap (λ (n : ℕ). nat_eq n 1) (c.bits_on.ensures s (omega (arith, few, held)))
-    ∙ bit_tells image (first_block track + s) track s c.map_of.result.now c.map_of.ensures.value
+    ∙ bit_decides image (first_block track + s) track s c.map_of.result.now c.map_of.ensures.value
     (sym (ap (λ (p : ℕ × ℕ). p.0) pair)) (sym (ap (λ (p : ℕ × ℕ). p.1) pair)))

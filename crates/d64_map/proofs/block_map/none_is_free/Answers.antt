@@ -23,8 +23,8 @@ pub returns-then-not-none_is_free_on : goal.returns-then-not-none_is_free_on
 returns-then-not-none_is_free_on c = (
   λ e. absurd (cc),
   λ none.
-      let told = c.none_is_free_on.ensures.none.1 (λ block from to member. none block member) in
-      let f : true ≡ false = sym told ∙ c.if-not-none_is_free_on.true in
+      let known = c.none_is_free_on.ensures.none.1 (λ block from to member. none block member) in
+      let f : true ≡ false = sym known ∙ c.if-not-none_is_free_on.true in
       absurd (cc),
 )
 
@@ -48,7 +48,7 @@ returns c =
     let size = c.each_track-track-items.ensures.size in
     let all = all_tracks (tracks_of (length c.args.image.now)) c.loop-track.yielded c.loop-track.track-iterator c.loop-track.invariant.split c.in-None.ensures.steps.0 in
     let last : first_block (length c.loop-track.yielded + 1) ≡ length image = ap (λ (n : ℕ). first_block (n + 1)) all ∙ all_blocks (length image) size in (
-      λ told block member. elim (cases_lt block (length image)) [
+      λ known block member. elim (cases_lt block (length image)) [
         | inl within ↦ c.loop-track.invariant.none block (omega arith) (omega (arith, within, last)) member
         | inr past ↦ contains-free_blocks-past image block past
       ],

@@ -1,5 +1,5 @@
 use Rattle.std.proofs.Common.{arith}
-use Rattle.d64_survey.proofs.Told.{bounded}
+use Rattle.d64_survey.proofs.Traced.{bounded}
 use Rattle.d64_survey.proofs.Trails.{lies}
 use Rattle.d64_survey.proofs.way_laws.ways_are_bounded.Goals as goal
 

@@ -1,4 +1,4 @@
-use Rattle.d64_survey.proofs.Told.{bounded}
+use Rattle.d64_survey.proofs.Traced.{bounded}
 use Rattle.d64_survey.proofs.way_laws.ways_are_chains_where_they_end.Goals as goal
 
 pub returns-clause-exists : goal.returns-clause-exists

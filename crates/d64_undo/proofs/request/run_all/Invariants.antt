@@ -7,8 +7,8 @@ use Rattle.d64_undo.proofs.request.run_all.Given as goal
 -- the requests so far have run, and there is room for the replies to the others
 abbrev pub invariant-loop-request : goal.invariant-loop-request
 invariant-loop-request l = record {
-  ran : Run l.initial.session (map asked_by (take l.request-index l.requests)) l.answers.items l.session;
+  ran : Run l.initial.session (map asked_by (take l.request-index l.requests)) l.outcomes.items l.session;
   kind : length (present_image l.session) ≡ length (present_image l.initial.session);
-  count : vec_len l.answers ≡ l.request-index;
-  room : length l.requests ≤ vec_capacity l.answers;
+  count : vec_len l.outcomes ≡ l.request-index;
+  room : length l.requests ≤ vec_capacity l.outcomes;
 }

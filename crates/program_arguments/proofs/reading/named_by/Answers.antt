@@ -8,18 +8,18 @@ use Rattle.program_arguments.specs.declared.subcommand.Subcommand.{Subcommand}
 use Rattle.program_arguments.proofs.reading.named_by.Goals as goal
 
 abbrev text : Bor (List ℕ) → Text
-text word = word.now
+text argument = argument.now
 
-begins : (words : List (Bor (List ℕ))) (name : Bor (List ℕ)) (none : Type 0) (found : Option Subcommand) → 1 < length words → name ≡ slice_index_or words 1 name
-    → MatchOption found none (λ subcommand. name_for subcommand ≡ name.now) → IfSome found (GoesOnWith (map text words))
-begins words name none None has is met = tt
-begins words name none (Some subcommand) has is met = (
-  map text (drop 2 words),
-  drop-map text 1 words ∙ ap (map text) (drop-cons words 1 name has) ∙ ap (λ (n : Bor (List ℕ)). n.now ∷ map text (drop 2 words)) (sym is)
-      ∙ ap (λ n. n ∷ map text (drop 2 words)) (sym met),
+begins : (arguments : List (Bor (List ℕ))) (name : Bor (List ℕ)) (none : Type 0) (found : Option Subcommand) → 1 < length arguments → name ≡ slice_index_or arguments 1 name
+    → MatchOption found none (λ subcommand. name_for subcommand ≡ name.now) → IfSome found (GoesOnWith (map text arguments))
+begins arguments name none None has is met = tt
+begins arguments name none (Some subcommand) has is met = (
+  map text (drop 2 arguments),
+  drop-map text 1 arguments ∙ ap (map text) (drop-cons arguments 1 name has) ∙ ap (λ (n : Bor (List ℕ)). n.now ∷ map text (drop 2 arguments)) (sym is)
+      ∙ ap (λ n. n ∷ map text (drop 2 arguments)) (sym met),
 )
 
 pub returns-in-Some : goal.returns-in-Some
 returns-in-Some c =
     let lookup = c.in-Some.ensures.lookup in
-    begins c.args.words.now c.in-Some.name.now _ c.named.result lookup.3.0 lookup.1 c.named.ensures
+    begins c.args.arguments.now c.in-Some.name.now _ c.named.result lookup.3.0 lookup.1 c.named.ensures

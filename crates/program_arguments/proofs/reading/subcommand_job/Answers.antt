@@ -12,27 +12,27 @@ use Rattle.program_arguments.proofs.Required.{met_is_whole}
 use Rattle.program_arguments.proofs.reading.subcommand_job.Goals as goal
 
 abbrev text : Bor (List ℕ) → Text
-text word = word.now
+text argument = argument.now
 
 -- the arguments of the program begin with the name of this subcommand, its command is this one, and
 -- it is given what is left of them
-module _ (words passed : List (Bor (List ℕ))) (rest : List Text) (subcommand : Subcommand) (app : App)
-    (begins : drop 1 (map text words) ≡ name_for subcommand ∷ rest) (passes : passed ≡ drop 1 words) (is_app : app ≡ app_for subcommand) where
+module _ (arguments passed : List (Bor (List ℕ))) (rest : List Text) (subcommand : Subcommand) (app : App)
+    (begins : drop 1 (map text arguments) ≡ name_for subcommand ∷ rest) (passes : passed ≡ drop 1 arguments) (is_app : app ≡ app_for subcommand) where
   given : map text passed ≡ name_for subcommand ∷ rest
-  given = ap (map text) passes ∙ sym (drop-map text 1 words) ∙ begins
+  given = ap (map text) passes ∙ sym (drop-map text 1 arguments) ∙ begins
 
   is_free : is_simple_and_free app ≡ true
   is_free = ap is_simple_and_free is_app ∙ free subcommand
 
-  fault_is : fault_of app (map text passed) ≡ fault_of d64sh (map text words)
+  fault_is : fault_of app (map text passed) ≡ fault_of d64sh (map text arguments)
   fault_is =
       ap (λ a. fault_of a (map text passed)) is_app ∙ ap (fault_of (app_for subcommand)) given
-      ∙ sym (same_fault (map text words) rest subcommand begins)
+      ∙ sym (same_fault (map text arguments) rest subcommand begins)
 
-  met_is : (matches : ArgMatches) → HasMatchesOf app (map text passed) matches → subcommand_of d64sh (map text words) ≡ Some (name_for subcommand, rows_of (found_of matches))
+  met_is : (matches : ArgMatches) → HasMatchesOf app (map text passed) matches → subcommand_of d64sh (map text arguments) ≡ Some (name_for subcommand, rows_of (found_of matches))
   met_is matches has =
       let rows = ap (λ a. matches_of a (map text passed)) is_app ∙ ap (matches_of (app_for subcommand)) given in
-      same_met (map text words) rest subcommand begins
+      same_met (map text arguments) rest subcommand begins
       ∙ ap (λ rows. Some (name_for subcommand, rows)) (sym rows ∙ sym (has (ap is_simple is_app ∙ simple subcommand)).0)
 
 pub job-requires : goal.job-requires

@@ -28,5 +28,5 @@ returns-in-Err-WrongLength-clause-filled c =
 pub returns-in-Err-Memory-clause-refused : goal.returns-in-Err-Memory-clause-refused
 returns-in-Err-Memory-clause-refused c =
     let file = c.args.file.now in
-    let told = ap (λ (f : DumpFault). wrong_dump_length {A = Unit {0}} (Err f)) c.in-Err-Memory.field-0-is in
-    ap (λ (b : Bool). if b then None else Some (length file)) (sym (a_part file (length file) (sym told ∙ c.in-Err-Memory.ensures.refused)))
+    let known = ap (λ (f : DumpFault). wrong_dump_length {A = Unit {0}} (Err f)) c.in-Err-Memory.field-0-is in
+    ap (λ (b : Bool). if b then None else Some (length file)) (sym (a_part file (length file) (sym known ∙ c.in-Err-Memory.ensures.refused)))

@@ -5,7 +5,7 @@ use Rattle.script_commands.proofs.TextArguments.{Does-read}
 use Rattle.script_commands.proofs.handlers.crunch.Goals as goal
 
 pub write_program-requires : goal.write_program-requires
-write_program-requires g c = rw c.as_slice.ensures.value (length-fetched _ _ _ _ c.in-Ok.ensures.answer)
+write_program-requires g c = rw c.as_slice.ensures.value (length-fetched _ _ _ _ c.in-Ok.ensures.response)
 
 pub returns-in-Ok : goal.returns-in-Ok
 returns-in-Ok g c =

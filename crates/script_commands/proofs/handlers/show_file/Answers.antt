@@ -1,7 +1,7 @@
 use Rattle.std.proofs.Common.{◌≡◌, ◌∙◌, ℕ, List, [], None, Ok, false, refl, sym, ap, subst, rules}
 use Rattle.d64_dos.specs.Reading.{read_refusal}
 use Rattle.script_text.specs.declared.status.Status.TheVariants.{Done}
-use Rattle.script_commands.specs.Act.{Room, Does, LineAnswer, World}
+use Rattle.script_commands.specs.Act.{Room, Does, LineResponse, World}
 use Rattle.script_commands.specs.FileText.{typed_text}
 use Rattle.script_commands.specs.FoundFile.{found_content}
 use Rattle.script_commands.specs.Line.{show, show_file}
@@ -22,9 +22,9 @@ returns c = λ host.
     let text : List ℕ = typed_text (found_content (present_image history) pattern) in
     let is : c.in_ok-text.text.items ≡ text = c.in_ok-text.ensures ∙ ap typed_text bytes in
     let world : World = record { host = host; history = history } in
-    let answer : LineAnswer = record { output = text; status = Done; closes = false } in
-    let shown : Does (show text history) world answer world = (refl, refl) in
-    subst (λ (given : LineAnswer). Does (show_file history pattern) world given world)
+    let response : LineResponse = record { output = text; status = Done; closes = false } in
+    let shown : Does (show text history) world response world = (refl, refl) in
+    subst (λ (given : LineResponse). Does (show_file history pattern) world given world)
     (sym (c.text.ensures (present_image history) ∙ ap (λ (output : List ℕ). record { output = output; status = Done; closes = false }) is))
     (Does-refuse_by _ _ _ _ _ refused
-    (Does-given Room (λ bytes. show text history) [] host host history answer world (refl, refl) shown))
+    (Does-given Room (λ bytes. show text history) [] host host history response world (refl, refl) shown))

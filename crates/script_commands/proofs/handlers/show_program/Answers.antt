@@ -1,7 +1,7 @@
 use Rattle.std.proofs.Common.{◌≡◌, ◌∙◌, ℕ, List, None, Ok, false, refl, sym, subst, rules}
 use Rattle.d64_dos.specs.Reading.{read_refusal}
 use Rattle.script_text.specs.declared.status.Status.TheVariants.{Done}
-use Rattle.script_commands.specs.Act.{Expand, Does, LineAnswer, World}
+use Rattle.script_commands.specs.Act.{Expand, Does, LineResponse, World}
 use Rattle.script_commands.specs.FoundFile.{found_content}
 use Rattle.script_commands.specs.Line.{show, show_program}
 use Rattle.d64_undo.specs.History.{present_image}
@@ -20,11 +20,11 @@ returns-in-Ok c = λ host.
     c.as_slice.ensures.value ∙ found_content-read (present_image history) pattern _ _ (rw (c.image.ensures.present, got) at c.read.ensures.back) in
     let text : List ℕ = c.in-Ok.text.items in
     let world : World = record { host = host; history = history } in
-    let answer : LineAnswer = record { output = text; status = Done; closes = false } in
-    let shown : Does (show text history) world answer world = (refl, refl) in
-    subst (λ (given : LineAnswer). Does (show_program history pattern) world given world) (sym (c.text.ensures (present_image history)))
+    let response : LineResponse = record { output = text; status = Done; closes = false } in
+    let shown : Does (show text history) world response world = (refl, refl) in
+    subst (λ (given : LineResponse). Does (show_program history pattern) world given world) (sym (c.text.ensures (present_image history)))
     (Does-refuse_by _ _ _ _ _ refused
-    (Does-given (Expand (found_content (present_image history) pattern)) (λ listing. show listing history) text host host history answer world
+    (Does-given (Expand (found_content (present_image history) pattern)) (λ listing. show listing history) text host host history response world
     (rw bytes at c.in-Ok.ensures, refl) shown))
 
 pub returns : goal.returns

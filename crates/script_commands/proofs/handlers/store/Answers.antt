@@ -2,7 +2,7 @@ use Rattle.std.proofs.Common.{[], Ok, Err, refl}
 use Rattle.script_commands.specs.Act.{Does, Store, CallGives, World}
 use Rattle.d64_undo.specs.History.{present_image}
 use Rattle.script_commands.specs.Line.{leave}
-use Rattle.script_commands.specs.Response.{shown_answer}
+use Rattle.script_commands.specs.Response.{shown_response}
 use Rattle.script_commands.proofs.Acts.{Does-given, Does-refused}
 use Rattle.script_commands.proofs.handlers.store.Goals as goal
 
@@ -13,12 +13,12 @@ returns-in-Ok g c = λ history.
     let new = g.H.Host.state c.store.new.self in
     let after : World = record { host = new; history = history } in
     let gives : CallGives (Store c.args.name.now c.args.bytes.now) old (Ok []) new =
-    (Ok tt, record { answer = c.in-Ok.ensures.stored; counted = c.in-Ok.ensures.counted }, refl) in
-    let done : Does (leave history) after (shown_answer (present_image history) c.plain.result) after = (c.plain.ensures (present_image history), refl) in
-    Does-given (Store c.args.name.now c.args.bytes.now) (λ stored. leave history) [] old new history (shown_answer (present_image history) c.plain.result) after gives done
+    (Ok tt, record { response = c.in-Ok.ensures.stored; counted = c.in-Ok.ensures.counted }, refl) in
+    let done : Does (leave history) after (shown_response (present_image history) c.plain.result) after = (c.plain.ensures (present_image history), refl) in
+    Does-given (Store c.args.name.now c.args.bytes.now) (λ stored. leave history) [] old new history (shown_response (present_image history) c.plain.result) after gives done
 
 pub returns-in-Err : goal.returns-in-Err
 returns-in-Err g c = λ history.
     rw c.of_fault.ensures
     (Does-refused _ _ _ _ _ history
-    (Err c.in-Err.fault, record { answer = c.in-Err.ensures.stored; counted = c.in-Err.ensures.counted }, refl))
+    (Err c.in-Err.fault, record { response = c.in-Err.ensures.stored; counted = c.in-Err.ensures.counted }, refl))

@@ -11,18 +11,18 @@ abbrev table : List ℕ
 table = flat_map hex_digits (range_with_len 0 256)
 
 -- the digits of a byte are at twice its number
-abbrev stands : ℕ → Bool
-stands byte = eqb (get_or table (2 * byte) 0) (dump_digit (byte / 16)) && eqb (get_or table (2 * byte + 1) 0) (dump_digit (byte % 16))
+abbrev lies : ℕ → Bool
+lies byte = eqb (get_or table (2 * byte) 0) (dump_digit (byte / 16)) && eqb (get_or table (2 * byte + 1) 0) (dump_digit (byte % 16))
 
-all_stand : list_all stands (range_with_len 0 256) ≡ true
-all_stand = refl
+all_lie : list_all lies (range_with_len 0 256) ≡ true
+all_lie = refl
 
 digits_of : (byte : ℕ) → byte < 256 → (get_or table (2 * byte) 0 ≡ dump_digit (byte / 16)) × (get_or table (2 * byte + 1) 0 ≡ dump_digit (byte % 16))
 digits_of byte small =
     let long : byte < length (range_with_len 0 256) = omega (arith, length-range_with_len 0 256) in
-    let there : stands (get_or (range_with_len 0 256) byte 0) ≡ true = AllPass-from_list_all stands (range_with_len 0 256) all_stand byte 0 long in
+    let there : lies (get_or (range_with_len 0 256) byte 0) ≡ true = AllPass-from_list_all lies (range_with_len 0 256) all_lie byte 0 long in
     let same : get_or (range_with_len 0 256) byte 0 ≡ byte = get_or-range_with_len 0 256 byte 0 small ∙ (let e : 0 + byte ≡ byte = omega arith in e) in
-    let both = and_parts _ _ (subst (λ n. stands n ≡ true) same there) in
+    let both = and_parts _ _ (subst (λ n. lies n ≡ true) same there) in
     (eqb-true _ _ both.0, eqb-true _ _ both.1)
 
 pub returns-clause-digits : goal.returns-clause-digits

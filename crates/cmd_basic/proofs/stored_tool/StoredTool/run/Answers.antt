@@ -11,14 +11,14 @@ returns-in-Ok-clause-ended g c =
     let tool = c.args.self.tool in
     let name = option_copied c.args.self.file in
     let target = c.args.self.target.now in
-    let answer = c.store-answer.result in
+    let outcome = c.store-outcome.result in
     let host = g.H.Host.state c.taken.new.host in
-    let last = g.H.Host.state c.store-answer.new.host in
-    let stored : HasStored tool c.in-Ok.bytes.items target host last answer =
-    subst (λ (bytes : List ℕ). HasStored tool bytes target host last answer) c.as_slice.ensures.value c.store-answer.ensures.stored in
-    ended_with_input tool name target _ _ host c.report.result c.in-Ok.bytes.items answer
-    c.in-Ok.ensures.bytes stored (stored_not_read tool c.in-Ok.bytes.items target host last answer stored) refl
-    (subst (λ (bytes : List ℕ). ReportsStored tool name bytes target last.files answer (account_at g.F.Write.contents c.args.console.now.outputs.faults) (account_at g.F.Write.contents c.report.new.faults) c.report.result)
+    let last = g.H.Host.state c.store-outcome.new.host in
+    let stored : HasStored tool c.in-Ok.bytes.items target host last outcome =
+    subst (λ (bytes : List ℕ). HasStored tool bytes target host last outcome) c.as_slice.ensures.value c.store-outcome.ensures.stored in
+    ended_with_input tool name target _ _ host c.report.result c.in-Ok.bytes.items outcome
+    c.in-Ok.ensures.bytes stored (stored_not_read tool c.in-Ok.bytes.items target host last outcome stored) refl
+    (subst (λ (bytes : List ℕ). ReportsStored tool name bytes target last.files outcome (account_at g.F.Write.contents c.args.console.now.outputs.faults) (account_at g.F.Write.contents c.report.new.faults) c.report.result)
     c.as_slice-in-Ok.ensures.value c.report.ensures.reported)
 
 pub returns-in-Err-clause-ended : goal.returns-in-Err-clause-ended

@@ -2,8 +2,8 @@ use Rattle.std.proofs.Common.{◌≡◌, List, ℕ, ap, ◌∙◌, subst}
 use Rattle.std.specs.Prelude.{IfOk}
 use Rattle.program_surveys.specs.declared.report.Verdict.{Verdict}
 use Rattle.cmd_extract.specs.Setup.{TaskView}
-use Rattle.cmd_extract.specs.Work.{Done, answer_in}
-use Rattle.cmd_extract.specs.Unpacking.{present_answer, folders_work, folder_after, present_work, task_work_with}
+use Rattle.cmd_extract.specs.Work.{Done, outcome_in}
+use Rattle.cmd_extract.specs.Unpacking.{present_outcome, folders_work, folder_after, present_work, task_work_with}
 use Rattle.cmd_extract.proofs.Steps.{further, ends_after, ends_with}
 use Rattle.host_names.specs.Paths.{path_inside}
 use Rattle.host_names.proofs.FolderLists.{texts}
@@ -28,11 +28,11 @@ returns-then-is_there-2 g c =
     let done_is : c.deref.result.now ≡ task.done = c.deref.ensures ∙ ap (λ (t : TaskView). t.done) c.self.view_is in
     let partial_is : c.deref-2.result.now ≡ task.partial = c.deref-2.ensures ∙ ap (λ (t : TaskView). t.partial) c.self.view_is in
     let reported_is : c.deref-then-is_there-2.result.now ≡ task.partial = c.deref-then-is_there-2.ensures ∙ ap (λ (t : TaskView). t.partial) c.self.view_is in
-    ends_after c.report_present.result buffer (task_work_with task folders) (Done (present_answer task task.partial)) host host host
+    ends_after c.report_present.result buffer (task_work_with task folders) (Done (present_outcome task task.partial)) host host host
     (further _ _ _ _ _ _ (not_done task folders c.deref.result.now host host c.is_there.result done_is c.is_there.ensures c.if-is_there.false)
     (is_begun task folders c.deref-2.result.now host host c.is_there-2.result partial_is c.is_there-2.ensures c.if-is_there-2.true))
-    (ends_with c.report_present.result buffer (present_answer task task.partial) host
-    (subst (λ (q : List ℕ). IfOk c.report_present.result (λ (v : Verdict). answer_in buffer v ≡ present_answer task q)) reported_is c.report_present.ensures))
+    (ends_with c.report_present.result buffer (present_outcome task task.partial) host
+    (subst (λ (q : List ℕ). IfOk c.report_present.result (λ (v : Verdict). outcome_in buffer v ≡ present_outcome task q)) reported_is c.report_present.ensures))
 
 pub returns : goal.returns
 returns g c =

@@ -7,7 +7,7 @@ use Rattle.d64_survey.specs.Dump.{wrong_dump_length}
 use Rattle.d64_survey.specs.declared.dump.DumpFault.{DumpFault}
 use Rattle.d64_g64.proofs.Dumps.{no_part}
 use Rattle.cmd_extract.specs.Work.{Work, EndsWork}
-use Rattle.cmd_extract.specs.Unpacking.{unread_answer, wrong_length_answer as reported_length, task_work, task_of}
+use Rattle.cmd_extract.specs.Unpacking.{unread_outcome, wrong_length_outcome as reported_length, task_work, task_of}
 use Rattle.cmd_extract.proofs.Steps.{stops, ends_with}
 use Rattle.cmd_extract.proofs.GivenFiles.{given_none, given_no_text, given_text}
 use Rattle.cmd_extract.proofs.unpacker.Unpacker.unpack.Goals as goal
@@ -19,7 +19,7 @@ returns-in-None-clause-done g c =
     let name = c.args.name.now in
     let given : option_map (λ (b : Bor (List ℕ)). b.now) c.args.bytes ≡ None = search rules in
     subst (λ (w : Work). EndsWork c.report_unread.result c.report_unread.new.buffer w host host) (given_none setup name _ given)
-    (ends_with c.report_unread.result c.report_unread.new.buffer (unread_answer setup name) host c.report_unread.ensures)
+    (ends_with c.report_unread.result c.report_unread.new.buffer (unread_outcome setup name) host c.report_unread.ensures)
 
 pub returns-in-Err-clause-done : goal.returns-in-Err-clause-done
 returns-in-Err-clause-done g c =
@@ -29,7 +29,7 @@ returns-in-Err-clause-done g c =
     let given : option_map (λ (b : Bor (List ℕ)). b.now) c.args.bytes ≡ Some c.in-Some.bytes.now = search rules in
     let no_text : is_utf8 name ≡ false = false_from_ne_true (is_utf8 name) (λ passes. c.in-Err.ensures.cases.0 (IsUtf8-from_is_utf8 name passes)) in
     subst (λ (w : Work). EndsWork c.report_unread-in-Err.result c.report_unread-in-Err.new.buffer w host host) (given_no_text setup name _ c.in-Some.bytes.now given no_text)
-    (ends_with c.report_unread-in-Err.result c.report_unread-in-Err.new.buffer (unread_answer setup name) host c.report_unread-in-Err.ensures)
+    (ends_with c.report_unread-in-Err.result c.report_unread-in-Err.new.buffer (unread_outcome setup name) host c.report_unread-in-Err.ensures)
 
 pub returns-in-Ok-refill_from-clause-done : goal.returns-in-Ok-refill_from-clause-done
 returns-in-Ok-refill_from-clause-done g c =

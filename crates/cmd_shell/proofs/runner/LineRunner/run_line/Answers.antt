@@ -1,7 +1,7 @@
 use Rattle.d64_undo.specs.History.{present_image}
-use Rattle.script_commands.specs.Response.{shown_answer}
+use Rattle.script_commands.specs.Response.{shown_response}
 use Rattle.cmd_shell.specs.Runner.{options_of}
-use Rattle.cmd_shell.proofs.LinesSoFar.{RunsLine-skipped, EndsLine-answered}
+use Rattle.cmd_shell.proofs.LinesSoFar.{RunsLine-skipped, EndsLine-executed}
 use Rattle.cmd_shell.proofs.runner.LineRunner.run_line.Goals as goal
 
 pub returns-in_default-clause-ran : goal.returns-in_default-clause-ran
@@ -10,5 +10,5 @@ returns-in_default-clause-ran g c raw says open_run =
 
 pub returns-clause-ran : goal.returns-clause-ran
 returns-clause-ran g c raw says open_run =
-    EndsLine-answered (options_of c.args.self.now.options.now) raw _ _ _ _ c.args.self.now.tally c.count.new.self (shown_answer (present_image c.answer_line.new.session) c.in-Some.response) c.write_answer.result
-    (c.in-Some.ensures raw says) c.count.ensures.closed c.count.ensures.accepted c.count.ensures.refused c.write_answer.ensures.ok c.write_answer.ensures.err
+    EndsLine-executed (options_of c.args.self.now.options.now) raw _ _ _ _ c.args.self.now.tally c.count.new.self (shown_response (present_image c.execute_line.new.session) c.in-Some.response) c.write_response.result
+    (c.in-Some.ensures raw says) c.count.ensures.closed c.count.ensures.accepted c.count.ensures.refused c.write_response.ensures.ok c.write_response.ensures.err

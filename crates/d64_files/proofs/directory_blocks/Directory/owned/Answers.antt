@@ -44,7 +44,7 @@ pub returns-in_err-claim_files : goal.returns-in_err-claim_files
 returns-in_err-claim_files c =
     let image = c.args.self.now in
     let fault = c.in_err-claim_files.field-0.0 in
-    let told : IsFirstFault image 2 5 fault =
+    let known : IsFirstFault image 2 5 fault =
     subst (IsFirstFault image 2 5) (sym c.in_err-claim_files.ensures.chains.0)
     (missing_chain image c.blocks-2.ensures.conditions
     (λ all. c.in_err-claim_files.ensures.chains.1 (chains_given image c.image.result.now c.slots.result c.image.ensures c.slots.ensures.slots all))) in

@@ -32,8 +32,8 @@ loop-entry-preserved c =
     (next c.args.survey.now c.loop-entry.lowest c.loop-entry.entry-iterator c.in-Some.entry c.next.new.self c.loop-entry.invariant c.in-Some.ensures.steps)
     other
 
-pub returns-clause-told : goal.returns-clause-told
-returns-clause-told c = all_noted c.args.survey.now c.loop-entry.lowest c.loop-entry.entry-iterator c.loop-entry.invariant c.in-None.ensures.steps.0
+pub returns-clause-listed : goal.returns-clause-listed
+returns-clause-listed c = all_noted c.args.survey.now c.loop-entry.lowest c.loop-entry.entry-iterator c.loop-entry.invariant c.in-None.ensures.steps.0
 
 pub returns-clause-few : goal.returns-clause-few
 returns-clause-few c = c.loop-entry.invariant.few

@@ -8,8 +8,8 @@ pub returns-else-slot-lt-MOST_SLOTS : goal.returns-else-slot-lt-MOST_SLOTS
 returns-else-slot-lt-MOST_SLOTS c =
     let image = c.self.inside.survey.now in
     let within : c.args.block < BLOCKS = search rules in
-    let told = c.self.invariant.1 c.args.block 6144 within (omega arith) in
+    let listed = c.self.invariant.1 c.args.block 6144 within (omega arith) in
     c.is_below-else-slot-lt-MOST_SLOTS.ensures
-    ∙ told
+    ∙ listed
     ∙ claimed_past image c.args.slot 6144 c.args.block c.self.invariant.2 c.if-slot-lt-MOST_SLOTS.false
     ∙ ap (λ (i : List (List ℕ)). is_claimed_below i c.args.slot c.args.block) c.self.view_is

@@ -12,16 +12,16 @@ loop-block-preserved c =
     let owner = owner_kept c.args.claimant in
     let k = c.loop-block.block-index in
     record {
-      told = subst (λ (owned : List (ℕ × Owner)). Adds c.args.self.now owned c.claim.new.self)
+      listed = subst (λ (owned : List (ℕ × Owner)). Adds c.args.self.now owned c.claim.new.self)
           (owned_more owner c.args.blocks.now k _ _ c.loop-block-test.true c.block-item.is)
-          (then_added c.args.self.now c.loop-block.self c.claim.new.self (owned_as owner (take k c.args.blocks.now)) (_ ∷ []) c.loop-block.invariant.told c.claim.ensures.told);
+          (then_added c.args.self.now c.loop-block.self c.claim.new.self (owned_as owner (take k c.args.blocks.now)) (_ ∷ []) c.loop-block.invariant.listed c.claim.ensures.listed);
       few = λ (b : ℕ).
           let before = c.loop-block.invariant.few b in
           let more = c.claim.ensures.few b in
           let goes : (owner_row_of c.claim.new.self b).count ≤ (owner_row_of c.args.self.now b).count + (k + 1) = omega arith in goes;
     }
 
-pub returns-clause-told : goal.returns-clause-told
-returns-clause-told c =
+pub returns-clause-listed : goal.returns-clause-listed
+returns-clause-listed c =
     subst (λ (bs : List ℕ). Adds c.args.self.now (owned_as (owner_kept c.args.claimant) bs) c.loop-block.self)
-    (take_all c.loop-block.block-index c.args.blocks.now c.loop-block-test.false) c.loop-block.invariant.told
+    (take_all c.loop-block.block-index c.args.blocks.now c.loop-block-test.false) c.loop-block.invariant.listed

@@ -8,8 +8,8 @@ use Rattle.d64_survey.specs.declared.owner.Owner.TheVariants.{File}
 use Rattle.d64_survey.proofs.OwnerLists.{then_added}
 use Rattle.d64_survey.proofs.owner_table.OwnerTable.claim_file.Goals as goal
 
-pub returns-clause-told : goal.returns-clause-told
-returns-clause-told c =
+pub returns-clause-listed : goal.returns-clause-listed
+returns-clause-listed c =
     let image = c.args.image.now in
     let k = c.place-slot.result in
     let same = c.place-slot.ensures ∙ c.slot.ensures in
@@ -18,4 +18,4 @@ returns-clause-told c =
     (ap₂ (λ (a b : List (ℕ × Owner)). a ++ b) (ap (λ (n : ℕ). part n Data c.data_pair.result) same ∙ ap (part c.args.entry.now.slot Data) c.data_pair.ensures)
     (ap (λ (n : ℕ). part n Side c.side_pair.result) same ∙ ap (part c.args.entry.now.slot Side) c.side_pair.ensures))
     (then_added c.args.self.now c.claim_way.new.self c.claim_way-2.new.self (part k Data c.data_pair.result) (part k Side c.side_pair.result)
-    c.claim_way.ensures.told c.claim_way-2.ensures.told)
+    c.claim_way.ensures.listed c.claim_way-2.ensures.listed)

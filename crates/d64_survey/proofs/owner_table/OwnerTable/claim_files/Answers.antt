@@ -22,8 +22,8 @@ loop-entry-preserved c =
       split = invariant.split
           ∙ ap (λ (left : List EntryView). done ++ left) c.in-Some.ensures.steps
           ∙ sym (append_assoc done (entry ∷ []) c.next.new.self);
-      told = subst (λ (all : List (ℕ × Owner)). Adds c.args.self.now all c.claim_file.new.self) (owned_more owned [] done entry)
-          (then_added c.args.self.now c.loop-entry.self c.claim_file.new.self (flat_map owned done) (owned entry) invariant.told c.claim_file.ensures.told);
+      listed = subst (λ (all : List (ℕ × Owner)). Adds c.args.self.now all c.claim_file.new.self) (owned_more owned [] done entry)
+          (then_added c.args.self.now c.loop-entry.self c.claim_file.new.self (flat_map owned done) (owned entry) invariant.listed c.claim_file.ensures.listed);
       few = λ (b : ℕ).
           let before = invariant.few b in
           let more = c.claim_file.ensures.few b in
@@ -37,4 +37,4 @@ returns c =
     let done = c.loop-entry.yielded in
     let owned : EntryView → List (ℕ × Owner) = λ entry. slot_owners c.args.image.now (entry.slot, entry.bytes) in
     subst (λ (walk : List EntryView). Adds c.args.self.now (flat_map owned walk) c.loop-entry.self)
-    (sym (invariant.split ∙ ap (λ (left : List EntryView). done ++ left) c.in-None.ensures.steps.0 ∙ append-nil done)) invariant.told
+    (sym (invariant.split ∙ ap (λ (left : List EntryView). done ++ left) c.in-None.ensures.steps.0 ∙ append-nil done)) invariant.listed

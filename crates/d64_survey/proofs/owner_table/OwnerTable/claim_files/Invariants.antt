@@ -10,7 +10,7 @@ use Rattle.d64_survey.proofs.owner_table.OwnerTable.claim_files.Given as goal
 abbrev pub invariant-loop-entry : goal.invariant-loop-entry
 invariant-loop-entry l = record {
   split : l.fn.slots ≡ l.yielded ++ l.entry-iterator;
-  told : Adds l.fn.self (flat_map (λ (entry : EntryView). slot_owners l.image (entry.slot, entry.bytes)) l.yielded) l.self;
+  listed : Adds l.fn.self (flat_map (λ (entry : EntryView). slot_owners l.image (entry.slot, entry.bytes)) l.yielded) l.self;
   few : AddsFew l.fn.self (1536 * length l.yielded) l.self;
   numbers : All (λ (entry : EntryView). entry.slot < 8 * BLOCKS) l.entry-iterator;
 }

@@ -9,7 +9,7 @@ use Rattle.d64_files.proofs.SlotLists.{length-entries}
 use Rattle.d64_survey.specs.Owners.{owned_as, slot_owners}
 use Rattle.d64_survey.specs.declared.owner.Owner.TheVariants.{Map, Directory}
 use Rattle.d64_survey.specs.declared.way_end.WayEnd.{WayEnd}
-use Rattle.d64_survey.proofs.OwnerLists.{then_added, all_claimed, all_told, numbers_below}
+use Rattle.d64_survey.proofs.OwnerLists.{then_added, all_claimed, all_listed, numbers_below}
 use Rattle.d64_survey.proofs.survey.Survey.of.Goals as goal
 
 pub along-requires : goal.along-requires
@@ -32,11 +32,11 @@ invariant_of-result c =
     let of_files = flat_map (λ (entry : EntryView). slot_owners image (entry.slot, entry.bytes)) c.along.result in
     let first = c.empty-owners.result in
     let added = then_added first c.claim_all.new.self c.claim_files.new.self (of_map ++ of_directory) of_files
-    (then_added first c.claim.new.self c.claim_all.new.self of_map of_directory c.claim.ensures.told c.claim_all.ensures.told) c.claim_files.ensures in
+    (then_added first c.claim.new.self c.claim_all.new.self of_map of_directory c.claim.ensures.listed c.claim_all.ensures.listed) c.claim_files.ensures in
     let all = all_claimed image c.map_block.result c.as_slice.result.now c.along.result c.map_block.ensures (c.as_slice.ensures.value ∙ directory)
     (c.along.ensures.slots ∙ ap (λ (bs : List ℕ). entries image (slots_in image bs)) (c.copy.ensures ∙ directory)) in (
       directory,
       ap (λ (w : List ℕ × WayEnd). w.1) c.walk-end.ensures.way,
       c.walk-end.ensures.held,
-      all_told image first c.claim_files.new.self ((of_map ++ of_directory) ++ of_files) c.empty-owners.ensures.told added all,
+      all_listed image first c.claim_files.new.self ((of_map ++ of_directory) ++ of_files) c.empty-owners.ensures.listed added all,
     )

@@ -11,7 +11,7 @@ use Rattle.d64_image.proofs.Patches.{rises-changed_blocks}
 use Rattle.d64_undo.specs.History.{present_image, extended_history}
 use Rattle.d64_undo.specs.SoundHistory.{IsSoundHistory}
 use Rattle.d64_undo.proofs.Records.{length-added}
-use Rattle.d64_undo.proofs.Sessions.{Holds, holds, holds-extended_history, present_is, stands}
+use Rattle.d64_undo.proofs.Sessions.{Holds, holds, holds-extended_history, present_is, lies}
 use Rattle.d64_undo.proofs.SoundHistories.{present_image-sound, extended_history-sound}
 use Rattle.d64_undo.proofs.session.Session.run.Goals as goal
 use Rattle.d64_undo.proofs.session.Session.run.Goals.{After-self-2-1}
@@ -74,8 +74,8 @@ pub returns-clause-sound : goal.returns-clause-sound
 returns-clause-sound c is all =
     let s = c.self.inside in
     let shown : present_image c.args.self.now ≡ s.image = present_is (holds c.self.invariant c.self.view_is) in
-    let standing = stands (holds c.self.invariant c.self.view_is) in
-    let sound : IsSound s.image = subst IsSound shown (present_image-sound c.args.self.now standing all) in
+    let within = lies (holds c.self.invariant c.self.view_is) in
+    let sound : IsSound s.image = subst IsSound shown (present_image-sound c.args.self.now within all) in
     let left : Leaves s.image (change_of c.args.command.now) c.in_ok-reply.reply c.apply_knowing.new.image =
     c.in_ok-reply.ensures.step (starts_from_sound s.image (change_of c.args.command.now) is sound) in
     subst IsSoundHistory (sym (returns-clause-accepted c))

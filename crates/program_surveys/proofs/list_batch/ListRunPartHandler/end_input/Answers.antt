@@ -13,5 +13,5 @@ returns g c = λ first parts last come is_open.
         silent = end.silent;
       };
       delivered = OnOk-map c.end.result _ _ (λ stays. (stays.0 come.delivered.0, stays.1 ∙ come.delivered.1)) end.delivered;
-      answered = Runs-part {A = Unit {0}} _ _ parts last _ _ _ _ c.end.result come.answered (ap g.C.FileTask.effects come.keeps.options) come.held end.answered;
+      processed = Runs-part {A = Unit {0}} _ _ parts last _ _ _ _ c.end.result come.processed (ap g.C.FileTask.effects come.keeps.options) come.held end.processed;
     }

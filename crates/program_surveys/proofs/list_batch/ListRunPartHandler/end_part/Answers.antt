@@ -15,7 +15,7 @@ returns-in-Ok-clause-came g c = λ first parts part come is_open.
       };
       delivered = (ok.delivered.0 come.delivered.0, ok.delivered.1 ∙ come.delivered.1);
       held = c.clear.ensures;
-      answered = Runs-part {A = Unit {0}} _ _ parts part _ _ _ _ (Ok (tt {0})) come.answered (ap g.C.FileTask.effects come.keeps.options) come.held ok.answered;
+      processed = Runs-part {A = Unit {0}} _ _ parts part _ _ _ _ (Ok (tt {0})) come.processed (ap g.C.FileTask.effects come.keeps.options) come.held ok.processed;
     }
 
 pub returns-in-Err-clause-came : goal.returns-in-Err-clause-came
@@ -29,6 +29,6 @@ returns-in-Err-clause-came g c = λ first parts part come is_open next more.
         silent = end.silent;
       };
       delivered = tt;
-      answered = StopsIn-part _ parts (next ∷ more) part c.in-Err.fault _ _
-          (Runs-part {A = Unit {0}} _ _ parts part _ _ _ _ (Err c.in-Err.fault) come.answered (ap g.C.FileTask.effects come.keeps.options) come.held c.in-Err.ensures.answered);
+      processed = StopsIn-part _ parts (next ∷ more) part c.in-Err.fault _ _
+          (Runs-part {A = Unit {0}} _ _ parts part _ _ _ _ (Err c.in-Err.fault) come.processed (ap g.C.FileTask.effects come.keeps.options) come.held c.in-Err.ensures.processed);
     }

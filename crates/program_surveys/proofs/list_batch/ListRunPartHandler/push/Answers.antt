@@ -13,5 +13,5 @@ returns-clause-came g c = λ first parts begun come. record {
   };
   delivered = come.delivered;
   held = c.push.ensures ∙ ap (λ (l : List ℕ). take 4097 (l ++ c.args.bytes.now)) come.held ∙ kept_name-push begun c.args.bytes.now;
-  answered = come.answered;
+  processed = come.processed;
 }
