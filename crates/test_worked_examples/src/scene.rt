@@ -248,7 +248,7 @@ impl Came {
         call: &Call<'_>,
         differences: &mut Differences,
     ) -> Result<(), CaseFault> {
-        differences.look_at_lines(line, "answers", self.output.written(), call.responses)?;
+        differences.look_at_lines(line, "printed", self.output.written(), call.responses)?;
         let faults = up_to(call.faults, call.faults_limit);
         differences.look_at_lines(line, "faults", self.faults.written(), faults)?;
         differences.look_at_values(line, "ending", &self.ending, &call.ending)?;
