@@ -13,9 +13,9 @@ import tempfile
 import time
 
 NAMES, SECONDS = ("chromium", "chromium-browser", "google-chrome"), 180
-WORDS = ("--headless=new", "--no-sandbox", "--disable-gpu", "--disable-dev-shm-usage", "--no-first-run", "--disable-background-networking",
-         "--disable-component-update", "--disable-extensions", "--disable-sync", "--hide-scrollbars", "--proxy-server=127.0.0.1:9",
-         "--proxy-bypass-list=<-loopback>", "--remote-debugging-pipe", "about:blank")
+OPTIONS = ("--headless=new", "--no-sandbox", "--disable-gpu", "--disable-dev-shm-usage", "--no-first-run", "--disable-background-networking",
+           "--disable-component-update", "--disable-extensions", "--disable-sync", "--hide-scrollbars", "--proxy-server=127.0.0.1:9",
+           "--proxy-bypass-list=<-loopback>", "--remote-debugging-pipe", "about:blank")
 
 
 def chromium():
@@ -33,9 +33,9 @@ class Browser:
     def __init__(self):
         self.folder = tempfile.TemporaryDirectory(ignore_cleanup_errors=True)
         (its_input, self.output), (self.input, its_output) = os.pipe(), os.pipe()
-        words = [chromium(), f"--user-data-dir={self.folder.name}", *WORDS]
+        command = [chromium(), f"--user-data-dir={self.folder.name}", *OPTIONS]
         # it reads from its third stream and writes to its fourth
-        self.process = subprocess.Popen(["sh", "-c", f'exec "$@" 3<&{its_input} 4>&{its_output}', "sh", *words], pass_fds=(its_input, its_output),
+        self.process = subprocess.Popen(["sh", "-c", f'exec "$@" 3<&{its_input} 4>&{its_output}', "sh", *command], pass_fds=(its_input, its_output),
                                         stdin=subprocess.DEVNULL, stdout=subprocess.DEVNULL, stderr=subprocess.DEVNULL)
         os.close(its_input)
         os.close(its_output)

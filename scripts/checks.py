@@ -62,7 +62,7 @@ SWEEPS = [
 
 # Of the crates whose programs are run, the commands that wait for it.
 AFTER = [
-    *((words, "d64sh") for words in SHORT),
+    *((command, "d64sh") for command in SHORT),
     *(([sweep, PROGRAM], "d64sh") for sweep in SWEEPS),
     (["scripts/sweep-calls", GROWTHS], "test_growths"),
 ]
@@ -74,21 +74,21 @@ def after():
     return [*((["scripts/wrong-bodies", "--gate", it], it) for it in crates), *AFTER]
 
 
-def timed(words):
+def timed(command):
     """Runs a command, and returns whether all is well, what it printed, and its seconds."""
     begin = time.monotonic()
     try:
-        done = subprocess.run(words, stdin=subprocess.DEVNULL, stdout=subprocess.PIPE, stderr=subprocess.STDOUT, text=True, errors="replace", check=False)
+        done = subprocess.run(command, stdin=subprocess.DEVNULL, stdout=subprocess.PIPE, stderr=subprocess.STDOUT, text=True, errors="replace", check=False)
     except OSError as error:
         return False, f"{error}\n", 0
     return done.returncode == 0, done.stdout, round(time.monotonic() - begin)
 
 
-def usage(text, words):
-    """The exit status of a script that takes no words and is given some, or None; it prints the script's usage."""
-    if not words:
+def usage(text, arguments):
+    """The exit status of a script that takes no arguments and is given some, or None; it prints the script's usage."""
+    if not arguments:
         return None
-    if words == ["--help"]:
+    if arguments == ["--help"]:
         print(text.strip())
         return 0
     print(text.strip().splitlines()[-1], file=sys.stderr)

@@ -79,9 +79,9 @@ def at_once(others=0):
     return max(1, min(len(os.sched_getaffinity(0)), free // MEMORY - others))
 
 
-def rt(crate, *words, top=TOP, **how):
+def rt(crate, *arguments, top=TOP, **how):
     """Runs rt in a crate's folder, and returns its status and what it printed on both streams."""
-    done = subprocess.run([RT, *words], cwd=os.path.join(top, "crates", crate), stdin=subprocess.DEVNULL, stdout=subprocess.PIPE,
+    done = subprocess.run([RT, *arguments], cwd=os.path.join(top, "crates", crate), stdin=subprocess.DEVNULL, stdout=subprocess.PIPE,
                           stderr=subprocess.STDOUT, text=True, errors="replace", check=False, **how)
     return done.returncode, done.stdout
 
@@ -151,8 +151,8 @@ def run_of(crate, program, left_out=()):
         if os.path.isdir(os.path.join(TOP, "crates", crate, "data")):
             shutil.copytree(os.path.join(TOP, "crates", crate, "data"), data, ignore=lambda _, names: set(left_out) & set(names))
         os.makedirs(data, exist_ok=True)
-        words = [os.path.abspath(program), *read("crates", crate, "args").decode().splitlines()]
-        done = subprocess.run(words, cwd=data, input=read("crates", crate, "stdin"), stdout=subprocess.PIPE, check=False)
+        command = [os.path.abspath(program), *read("crates", crate, "args").decode().splitlines()]
+        done = subprocess.run(command, cwd=data, input=read("crates", crate, "stdin"), stdout=subprocess.PIPE, check=False)
         return done.returncode, done.stdout
 
 

@@ -430,16 +430,16 @@ class Shell:
         self.refusals = []  # of each refused line its number in the script and its bytes
 
     @classmethod
-    def started(cls, words, files, folders=()):
+    def started(cls, arguments, files, folders=()):
         """The shell that begins where these arguments follow `shell`: that of an image, a blank one, or the session of a file, if it is one."""
-        if words[:1] == ["--resume"]:
-            images, cursor = session_model.resumed(files[words[1]])
-            shell = cls(images[0], files, folders, "".join(words[2:]))
+        if arguments[:1] == ["--resume"]:
+            images, cursor = session_model.resumed(files[arguments[1]])
+            shell = cls(images[0], files, folders, "".join(arguments[2:]))
             shell.images, shell.cursor = [Disk(image) for image in images], cursor
             return shell
-        if words[:1] == ["--tracks"]:
-            return cls(BLANK[int(words[1])], files, folders, "")
-        return cls(files[words[0]] if words else BLANK[35], files, folders, "".join(words))
+        if arguments[:1] == ["--tracks"]:
+            return cls(BLANK[int(arguments[1])], files, folders, "")
+        return cls(files[arguments[0]] if arguments else BLANK[35], files, folders, "".join(arguments))
 
     def fetch(self, name):
         if name in self.folders or name.rpartition("/")[0] in self.files:
@@ -525,8 +525,8 @@ class Shell:
         lines = data.split(b"\r")
         return "".join(to_text(line) + "\n" for line in (lines if lines[-1] else lines[:-1]))
 
-    def do_delete(self, disk, *words):
-        patterns = [name_in(word, b"*?") for word in words]
+    def do_delete(self, disk, *arguments):
+        patterns = [name_in(argument, b"*?") for argument in arguments]
         disk, count = disk.scratched(patterns)
         self.add(disk)
         return count

@@ -7,10 +7,10 @@ import survey_model as model
 SECONDS = 120
 
 
-def ran(program, folder, *words):
+def ran(program, folder, *arguments):
     """The status, the output and the faults of a run, or None if it doesn't end."""
     try:
-        done = subprocess.run([program, *words], cwd=folder, stdin=subprocess.DEVNULL, capture_output=True, timeout=SECONDS, check=False)
+        done = subprocess.run([program, *arguments], cwd=folder, stdin=subprocess.DEVNULL, capture_output=True, timeout=SECONDS, check=False)
     except subprocess.TimeoutExpired:
         return None
     return done.returncode, done.stdout.decode(errors="backslashreplace"), model.without_guesses(done.stderr.decode(errors="backslashreplace"))

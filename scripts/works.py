@@ -11,7 +11,7 @@ MANY = 10_000
 FILES = 144
 
 # One process: what it does, its arguments, its standard input, and the files that it makes, which must not be there.
-Work = namedtuple("Work", "name words script made", defaults=("", ()))
+Work = namedtuple("Work", "name arguments script made", defaults=("", ()))
 
 
 def make_files(folder):
@@ -43,13 +43,13 @@ def fill():
 def make_disks(program, folder):
     """A full disk, what it is after some changes, an empty one of 40 tracks, and one to save over."""
     shell = [program, "shell"]
-    for words, script in (
+    for command, script in (
         (shell, fill() + "save full.d64\n"),
         ([*shell, "full.d64"], "delete file0\nwrite five more\nrename file1 other\nsave changed.d64\n"),
         ([*shell, "--tracks", "40"], 'format "empty,02"\nsave empty.d64\n'),
         (shell, "save kept.d64\n"),
     ):
-        subprocess.run(words, cwd=folder, input=script.encode(), stdout=subprocess.DEVNULL, check=True)
+        subprocess.run(command, cwd=folder, input=script.encode(), stdout=subprocess.DEVNULL, check=True)
 
 
 def make_session(folder, size):
@@ -85,8 +85,8 @@ def instructions(work, folder, passed=()):
     with tempfile.NamedTemporaryFile() as log, tempfile.TemporaryFile() as given:
         given.write(work.script.encode())
         given.seek(0)
-        words = ["valgrind", "--tool=callgrind", "--callgrind-out-file=/dev/null", f"--log-file={log.name}", *work.words]
+        command = ["valgrind", "--tool=callgrind", "--callgrind-out-file=/dev/null", f"--log-file={log.name}", *work.arguments]
         # each variable of the environment takes instructions at the start of a process
-        subprocess.run(words, cwd=folder, stdin=given, stdout=subprocess.DEVNULL, stderr=subprocess.DEVNULL, pass_fds=passed, check=False, env={"PATH": os.defpath})
+        subprocess.run(command, cwd=folder, stdin=given, stdout=subprocess.DEVNULL, stderr=subprocess.DEVNULL, pass_fds=passed, check=False, env={"PATH": os.defpath})
         counts = [line.split()[-1] for line in log.read().decode().splitlines() if "Collected :" in line]
     return int(counts[0]) if counts else None
