@@ -4,7 +4,7 @@ use Rattle.std.specs.List.{flat_map}
 use Rattle.cbm_text.specs.BasicText.{basic_fault_line}
 use Rattle.cbm_text.specs.Causes.{cause_text}
 use Rattle.cbm_text.specs.declared.faulty_text.FaultyLine.{FaultyLine}
-use Rattle.script_commands.specs.BasicFiles.{status_of_basic}
+use Rattle.script_lines.specs.BasicFiles.{status_of_basic}
 use Rattle.out_messages.specs.ShownStart.{shown_start}
 use Rattle.out_messages.specs.Words.{counted_text}
 use Rattle.cmd_basic.specs.RefusalLine.{refusal_line}

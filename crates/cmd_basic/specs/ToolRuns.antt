@@ -7,8 +7,8 @@ use Rattle.script_text.specs.Status.{status_line}
 use Rattle.host_storage.specs.Files.{Files, HostState}
 use Rattle.host_storage.specs.declared.host.HostFault.{HostFault}
 use Rattle.host_storage.specs.declared.host.HostFault.TheVariants as files
-use Rattle.script_commands.specs.Act.{FetchesFile}
-use Rattle.script_commands.specs.BasicFiles.{status_of_basic, status_of_listing}
+use Rattle.script_lines.specs.Act.{FetchesFile}
+use Rattle.script_lines.specs.BasicFiles.{status_of_basic, status_of_listing}
 use Rattle.out_messages.specs.FaultLines.{unwritten_line}
 use Rattle.cbm_text.specs.FaultyLines.{AreFaultyIn}
 use Rattle.cbm_text.specs.ListFault.{list_fault_text}

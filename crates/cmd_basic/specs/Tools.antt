@@ -11,7 +11,7 @@ use Rattle.host_storage.specs.Output.{AppendsPart}
 use Rattle.host_storage.specs.Files.{HostState}
 use Rattle.host_storage.specs.declared.host.HostFault.{HostFault}
 use Rattle.host_storage.specs.declared.host.HostFault.TheVariants as files
-use Rattle.script_commands.specs.Act.{StoresFile}
+use Rattle.script_lines.specs.Act.{StoresFile}
 use Rattle.cmd_basic.specs.declared.tools.Tool.{Tool}
 use Rattle.cmd_basic.specs.declared.tools.Tool.TheVariants.{Petcat, Crunch}
 use Rattle.cmd_basic.specs.declared.tools.ToolFault.{ToolFault}

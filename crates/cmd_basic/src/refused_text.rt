@@ -9,7 +9,7 @@ ghost use Rattle.cmd_basic.specs.RefusedText.{HasSmallNumber, faulty_line, inden
 use crate::refusal_line::push_refusal_line;
 use cbm_text::{Cause, FaultyLine, faulty_lines};
 use out_messages::{push_count, shown_start};
-use script_commands::status_from::of_basic_fault;
+use script_lines::status_from::of_basic_fault;
 use std::alloc::{AllocError, Global};
 
 /// The most faulty lines of a text that are printed.

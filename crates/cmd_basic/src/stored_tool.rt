@@ -19,8 +19,8 @@ use out_messages::unwritten_line;
 use program_console::{
     ALL_ACCEPTED, Console, NOT_RUN, ProgramFault, SOME_REFUSED, push_known_reason, reason_unwritten,
 };
-use script_commands::host_file::fetch;
-use script_commands::status_from::of_list_fault;
+use script_lines::host_file::fetch;
+use script_lines::status_from::of_list_fault;
 use std::alloc::{AllocError, Global};
 use std::io::{Read, Write};
 

@@ -6,8 +6,8 @@ use Rattle.std.proofs.KnownBytes.{Appends-nil, Appends-trans}
 use Rattle.std.proofs.lemmas.Bool.{false≢true}
 use Rattle.std.proofs.lemmas.List.{map-append, nil_from_length}
 use Rattle.host_storage.specs.Output.{AppendsPart}
-use Rattle.script_commands.specs.Line.{IsExecuted, IsSkipped}
-use Rattle.script_commands.specs.Act.{printed_bytes, LineResponse, World}
+use Rattle.script_lines.specs.Line.{IsExecuted, IsSkipped}
+use Rattle.script_lines.specs.Act.{printed_bytes, LineResponse, World}
 use Rattle.script_text.specs.Status.{is_accepted}
 use Rattle.cmd_shell.specs.Transcript.{ends_script, RunOptions, RunProgress, Transcript, counted_progress}
 use Rattle.cmd_shell.specs.Runner.{ScriptState, first_progress, RanLines, StoppedAt}

@@ -5,7 +5,7 @@ use Rattle.std.specs.Io.KnownBytes.{Appends, Consumes, Keeps}
 use Rattle.std.proofs.KnownBytes.{Appends-kept}
 use Rattle.std.proofs.lemmas.Bool.{cases_Bool, false≢true}
 use Rattle.host_storage.specs.Files.{HostState}
-use Rattle.script_commands.specs.Act.{world_of}
+use Rattle.script_lines.specs.Act.{world_of}
 use Rattle.script_text.specs.HeldLine.{HoldsLine}
 use Rattle.host_storage.specs.Input.{Reading, input_limit}
 use Rattle.script_text.specs.Parts.{Ends, HasCome}

@@ -8,6 +8,7 @@ use Rattle.std.proofs.lemmas.Slice.Eq.{bytes_eq-Decides}
 use Rattle.std.proofs.lemmas.Bool.{eqb-true, eqb-false, or_parts, and_parts}
 use Rattle.std.proofs.lemmas.Bool.Decides.{nat_tests}
 use Rattle.std.proofs.lemmas.List.Elements.{All-nil, All-cons, All-head, All-tail}
+use Rattle.d64_image.specs.Disk.{AreBytes}
 use Rattle.d64_files.specs.Pattern.{is_pattern}
 use Rattle.d64_files.specs.declared.kind.Kind.TheVariants.{Prg}
 use Rattle.d64_dos.specs.Change.{Change}
@@ -15,28 +16,28 @@ use Rattle.d64_dos.specs.Change as changes
 use Rattle.d64_dos.specs.Command.{reply_to, refusal_of}
 use Rattle.d64_dos.specs.Reading.{directory_refusal, read_refusal}
 use Rattle.d64_dos.specs.declared.refusal.Refusal.{Refusal}
-use Rattle.d64_undo.specs.History.{History, present_image, undone_history, redone_history}
+use Rattle.d64_history.specs.History.{History, present_image, undone_history, redone_history}
 use Rattle.d64_undo.specs.Request.{Asked, Apply, Undo, Redo, Step, Run}
 use Rattle.d64_undo.specs.SoundHistory.{HoldsSoundDisks, KeepsDisksSound}
 use Rattle.d64_undo.proofs.SoundHistories.{step-sound}
-use Rattle.d64_effects.specs.Laws.{AreBytes, AreTwoBytes}
+use Rattle.d64_effects.specs.Laws.{AreTwoBytes}
 use Rattle.d64_files.specs.Label.{holds_any_of}
 use Rattle.d64_files.specs.Name.{IsName, is_name, forbidden_in_names}
 use Rattle.host_storage.specs.declared.host.HostFault.{HostFault}
 use Rattle.cbm_text.proofs.FileBytes.{file_small}
 use Rattle.cbm_text.proofs.NormalLines.{small_bytes}
-use Rattle.script_commands.specs.BasicFiles.{program_start}
+use Rattle.script_lines.specs.BasicFiles.{program_start}
 use Rattle.d64_undo.specs.declared.request.RequestOutcome.{RequestOutcome}
 use Rattle.d64_undo.specs.declared.request.RequestOutcome.TheVariants.{Accepted, Undone, Redone}
 use Rattle.script_text.specs.RawLines.{text_of, is_too_long, is_skipped}
 use Rattle.script_text.specs.Words.{words_of_line}
 use Rattle.petscii.specs.Spelling.{spelling}
-use Rattle.script_commands.specs.Act.{printed_bytes, Act, Give, Refuse, Then, Call, Text, Fetch, Store, Crunch, Expand, Room, CallGives, bytes_given, Ending, Does, LineResponse, World, ◌>>=◌, value_or_refusal, need, each_text, plain_response}
+use Rattle.script_lines.specs.Act.{printed_bytes, Act, Give, Refuse, Then, Call, Text, Fetch, Store, Crunch, Expand, Room, CallGives, bytes_given, Ending, Does, LineResponse, World, ◌>>=◌, value_or_refusal, need, each_text, plain_response}
 use Rattle.host_storage.specs.Files.{HostState}
-use Rattle.script_commands.specs.Arguments.{host_in, block_argument, at_comma, can_be_id, name_and_kind_in, name_and_kind_of}
-use Rattle.script_commands.specs.WordCounts.{no_word, one_word, at_most_one, word_and, some_words}
-use Rattle.script_commands.specs.FoundFile.{found_name, can_name_file}
-use Rattle.script_commands.specs.Line.{refuse_by, leave, run, commands, act_of_words, act_of_line, name_parts, read_to, save_act, undo_act, redo_act}
+use Rattle.script_lines.specs.Arguments.{host_in, block_argument, at_comma, can_be_id, name_and_kind_in, name_and_kind_of}
+use Rattle.script_lines.specs.WordCounts.{no_word, one_word, at_most_one, word_and, some_words}
+use Rattle.script_lines.specs.FoundFile.{found_name, can_name_file}
+use Rattle.script_lines.specs.Line.{refuse_by, leave, run, commands, act_of_words, act_of_line, name_parts, read_to, save_act, undo_act, redo_act}
 use Rattle.cmd_shell.specs.ScriptLaws.{IsReachedIn, ScriptsAreRuns, IsBlockWrite, ScriptsKeepDisksSound}
 use Rattle.script_commands.specs.declared.observer.Refusals.{Refusals}
 use Rattle.cmd_shell.specs.Transcript.{RunOptions, RunProgress, Line, Transcript, IsSilent, counted_progress}

@@ -6,9 +6,9 @@ use Rattle.host_storage.specs.Files.{Files}
 use Rattle.host_storage.specs.Host.{Fetches, Opens, IsOfDeviceOrMemory}
 use Rattle.host_storage.specs.declared.host.HostFault.{HostFault}
 use Rattle.host_storage.specs.declared.host.HostFault.TheVariants.{Missing, Device, TooLong, Memory}
-use Rattle.d64_undo.specs.ResumeFault.{first_resume_fault, reported_by}
-use Rattle.d64_undo.specs.declared.resume_fault.ResumeFault.{ResumeFault}
-use Rattle.d64_undo.specs.declared.resume_fault.ResumeFault.TheVariants as resumes
+use Rattle.d64_history.specs.ResumeFault.{first_resume_fault, reported_by}
+use Rattle.d64_history.specs.declared.resume_fault.ResumeFault.{ResumeFault}
+use Rattle.d64_history.specs.declared.resume_fault.ResumeFault.TheVariants as resumes
 use Rattle.cmd_shell.specs.ShellRuns.{GivesNoSession}
 use Rattle.cmd_shell.specs.ShellFaults.{fault_of_resume}
 

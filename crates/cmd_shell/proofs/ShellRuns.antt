@@ -6,7 +6,7 @@ use Rattle.script_text.specs.RawLines.{lines_of, ended_lines}
 use Rattle.host_storage.specs.Input.{Reading, input_limit}
 use Rattle.host_storage.specs.Output.{Account}
 use Rattle.host_storage.specs.Files.{HostState}
-use Rattle.d64_undo.specs.History.{History}
+use Rattle.d64_history.specs.History.{History}
 use Rattle.cmd_shell.specs.Beginnings.{Beginning, Blank, ImageFile, SessionFile, Source, Input, Given}
 use Rattle.cmd_shell.specs.ShellRuns.{GivesNoImage, GivesNoSession, HasNoHistory, HasNoText, IsDue, IsFirstHistory, IsReadDue, RanFrom, RanShell, IsRunReportedAs, StoppedBy}
 use Rattle.program_console.specs.Outside.{Outside, outside_of}
@@ -16,8 +16,8 @@ use Rattle.program_console.specs.declared.program_fault.ProgramFault.{ProgramFau
 use Rattle.program_console.specs.declared.program_fault.ProgramFault.TheVariants as faults
 use Rattle.host_storage.specs.declared.host.HostFault.{HostFault}
 use Rattle.host_storage.specs.declared.host.HostFault.TheVariants as files
-use Rattle.d64_undo.specs.declared.resume_fault.ResumeFault.{ResumeFault}
-use Rattle.d64_undo.specs.declared.resume_fault.ResumeFault.TheVariants as resumes
+use Rattle.d64_history.specs.declared.resume_fault.ResumeFault.{ResumeFault}
+use Rattle.d64_history.specs.declared.resume_fault.ResumeFault.TheVariants as resumes
 use Rattle.cmd_shell.specs.Runner.{ScriptState, RanLines, StoppedAt, Ran}
 use Rattle.cmd_shell.specs.Transcript.{RunOptions, RunProgress}
 use Rattle.cmd_shell.specs.declared.runner.Outcome.{Outcome}

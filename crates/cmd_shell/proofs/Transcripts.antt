@@ -1,8 +1,8 @@
 -- Transcripts that go on line by line.
 use Rattle.std.proofs.Common.{◌≡◌, ℕ, ◌+◌, List, [], ◌∷◌, ◌++◌, Bool, true, false, Option, None, Some, refl, sym, ap, ◌∙◌, subst, append_assoc, append-nil, if◌then◌else◌, ◌||◌}
 use Rattle.std.specs.Prelude.{MatchBool, MatchOption}
-use Rattle.script_commands.specs.Act.{printed_bytes, Act, Ending, Does, LineResponse, World}
-use Rattle.script_commands.specs.Line.{act_of_line, IsSkipped, IsExecuted}
+use Rattle.script_lines.specs.Act.{printed_bytes, Act, Ending, Does, LineResponse, World}
+use Rattle.script_lines.specs.Line.{act_of_line, IsSkipped, IsExecuted}
 use Rattle.script_text.specs.Status.{is_accepted}
 use Rattle.cmd_shell.specs.Transcript.{ends_script, RunOptions, RunProgress, Line, Transcript, IsSilent, counted_progress}
 

@@ -4,7 +4,7 @@ use Rattle.std.specs.Io.KnownBytes.{Appends}
 use Rattle.host_storage.specs.Files.{HostState}
 use Rattle.script_text.specs.HeldLine.{HoldsLine}
 use Rattle.host_storage.specs.Output.{AppendsPart}
-use Rattle.script_commands.specs.Act.{World, world_of}
+use Rattle.script_lines.specs.Act.{World, world_of}
 use Rattle.cmd_shell.specs.Transcript.{RunOptions, RunProgress, Line}
 use Rattle.cmd_shell.specs.Runner.{ScriptState, RanLines, StoppedAt, options_of, script_state}
 use Rattle.cmd_shell.specs.declared.runner.LineRunner.{LineRunner}

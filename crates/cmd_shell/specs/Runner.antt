@@ -3,7 +3,7 @@ use Rattle.std.specs.Prelude.{◌≡◌, ℕ, List, ◌∷◌, ◌++◌, take, B
 use Rattle.std.specs.Io.KnownBytes.{Appends, Consumes}
 use Rattle.host_storage.specs.Input.{Reading, IsUnreadable, input_limit}
 use Rattle.script_text.specs.RawLines.{lines_of, ended_lines}
-use Rattle.script_commands.specs.Act.{World}
+use Rattle.script_lines.specs.Act.{World}
 use Rattle.cmd_shell.specs.Transcript.{RunOptions, RunProgress, Line, Transcript}
 use Rattle.cmd_shell.specs.declared.runner.Outcome.{Outcome}
 use Rattle.cmd_shell.specs.declared.runner.ShellFault.{ShellFault}

@@ -1,6 +1,6 @@
 -- What follows from the definition of a transcript.
 use Rattle.std.specs.Prelude.{◌≡◌, ℕ, ◌≤◌, List, ◌∷◌, length, All, Some, codes}
-use Rattle.d64_undo.specs.History.{History}
+use Rattle.d64_history.specs.History.{History}
 use Rattle.d64_undo.specs.Request.{Asked, Run}
 use Rattle.d64_undo.specs.SoundHistory.{HoldsSoundDisks}
 use Rattle.d64_undo.specs.declared.request.RequestOutcome.{RequestOutcome}

@@ -1,9 +1,9 @@
 -- The faults of images, sessions and scripts as those of the program.
 use Rattle.d64_image.specs.declared.image.ImageFault.{ImageFault}
 use Rattle.d64_image.specs.declared.image.ImageFault.TheVariants as images
-use Rattle.d64_undo.specs.ResumeFault.{resume_fault_number}
-use Rattle.d64_undo.specs.declared.resume_fault.ResumeFault.{ResumeFault}
-use Rattle.d64_undo.specs.declared.resume_fault.ResumeFault.TheVariants as resumes
+use Rattle.d64_history.specs.ResumeFault.{resume_fault_number}
+use Rattle.d64_history.specs.declared.resume_fault.ResumeFault.{ResumeFault}
+use Rattle.d64_history.specs.declared.resume_fault.ResumeFault.TheVariants as resumes
 use Rattle.cmd_shell.specs.declared.runner.ShellFault.{ShellFault}
 use Rattle.cmd_shell.specs.declared.runner.ShellFault.TheVariants as runs
 use Rattle.program_console.specs.declared.program_fault.ProgramFault.{ProgramFault}

@@ -5,11 +5,11 @@ use Rattle.host_storage.specs.Input.{Reading, IsUnreadable, input_limit}
 use Rattle.host_storage.specs.Files.{HostState}
 use Rattle.host_storage.specs.declared.host.HostFault.{HostFault}
 use Rattle.d64_image.specs.Image.{IsImage, bytes_of, is_image_length}
-use Rattle.script_commands.specs.Act.{FetchesFile}
-use Rattle.d64_undo.specs.History.{History, new_history}
-use Rattle.d64_undo.specs.ResumeFault.{first_resume_fault}
-use Rattle.d64_undo.specs.SessionFile.{IsSession, file_of}
-use Rattle.d64_undo.specs.declared.resume_fault.ResumeFault.{ResumeFault}
+use Rattle.script_lines.specs.Act.{FetchesFile}
+use Rattle.d64_history.specs.History.{History, new_history}
+use Rattle.d64_history.specs.ResumeFault.{first_resume_fault}
+use Rattle.d64_history.specs.SessionFile.{IsSession, file_of}
+use Rattle.d64_history.specs.declared.resume_fault.ResumeFault.{ResumeFault}
 use Rattle.cmd_shell.specs.Runner.{Ran, ScriptState}
 use Rattle.cmd_shell.specs.Transcript.{RunOptions}
 use Rattle.cmd_shell.specs.declared.runner.Outcome.{Outcome}

@@ -2,9 +2,9 @@
 ghost use Rattle.std.specs.Prelude.{◌≡◌, ℕ, List, Result, Ok, Err, None, IfOk, IfErr, OnOk, map, option_copied, option_map, string_bytes, true, false};
 ghost use Rattle.host_storage.specs.declared.host.HostFault.{HostFault};
 ghost use Rattle.d64_image.specs.Image.{IsImage, bytes_of};
-ghost use Rattle.d64_undo.specs.SessionFile.{IsSession, file_of};
+ghost use Rattle.d64_history.specs.SessionFile.{IsSession, file_of};
 ghost use Rattle.host_storage.specs.Input.{reading_of, input_limit};
-ghost use Rattle.script_commands.specs.Act.{FetchesFile, world_of};
+ghost use Rattle.script_lines.specs.Act.{FetchesFile, world_of};
 ghost use Rattle.cmd_shell.specs.Runner.{options_of, script_state};
 ghost use Rattle.cmd_shell.specs.Beginnings.{Given, beginning_of, refusals_of, source_by, source_of, text_of_lines};
 ghost use Rattle.cmd_shell.specs.Scripts.{beginning_in, options_in, source_in};
@@ -20,8 +20,8 @@ use d64_image::{Image, ImageFault};
 use d64_undo::{Session, SessionReadFault, resume_from};
 use host_storage::{Host, HostFault, INPUT_BYTES};
 use program_console::{ALL_ACCEPTED, Console, ProgramFault, SOME_REFUSED};
-use script_commands::host_file::fetch;
 use script_commands::{Observer, Opening, Refusals};
+use script_lines::host_file::fetch;
 use std::alloc::{AllocError, Global};
 use std::io::{Read, Write};
 

@@ -1,9 +1,9 @@
 -- The effect of an accepted command on a sound disk and on what it shows.
 use Rattle.std.specs.Prelude.{◌≡◌, None, IfSome}
-use Rattle.d64_image.specs.Disk.{Disk}
+use Rattle.d64_image.specs.Disk.{Disk, AreBytes}
 use Rattle.d64_files.specs.Name.{IsName}
 use Rattle.d64_image.specs.Image.{IsImage}
-use Rattle.d64_effects.specs.Laws.{AreTwoBytes, AreBytes}
+use Rattle.d64_effects.specs.Laws.{AreTwoBytes}
 use Rattle.d64_effects.specs.View.{IsSound, view}
 use Rattle.d64_dos.specs.Change.{Change, Format, Write, Delete, Undelete, Rename, Name, Validate, BlockWrite}
 use Rattle.d64_dos.specs.Command.{image_after, reply_to, refusal_of, StartsFrom, ViewStep}

@@ -8,6 +8,7 @@ use Rattle.std.proofs.lemmas.Bool.{or_parts, lt-ltb, ne_eqb}
 use Rattle.std.proofs.lemmas.Bool.Decides.{nat_tests, eqb_tells}
 use Rattle.std.proofs.lemmas.List.{append-nil, length-append, length-take, length-take-le, length-drop, length-replicate, length-set, get_or-set_same, get_or-set_other, take-append-drop, take_all, take_at}
 use Rattle.std.proofs.lemmas.List.Elements.{All-cons, All-head, All-tail, All-set, All-append, All-replicate, All-take, All-drop}
+use Rattle.d64_image.specs.Disk.{AreBytes}
 use Rattle.d64_image.specs.declared.block.TheConstants.{BLOCKS}
 use Rattle.d64_image.specs.Block.{pair_at, block_of}
 use Rattle.d64_image.specs.Image.{IsBlock, IsSize, IsImage, sector_at, with_sector}
@@ -19,7 +20,6 @@ use Rattle.d64_files.specs.Writing.{blocks_for, linked_block, last_block, with_c
 use Rattle.d64_files.proofs.Chains.{chain_of_one, chain_before}
 use Rattle.d64_files.proofs.FileBlocks.{needs_one, fills_first, needs_less}
 use Rattle.d64_files.proofs.Repeats.{not_among}
-use Rattle.d64_effects.specs.Laws.{AreBytes}
 
 -- blocks that a file's bytes fit: as many as it needs, different ones, each one of n in all
 pub record Fits (total : ℕ) (taken bytes : List ℕ) : Type 0 where

@@ -7,6 +7,7 @@ use Rattle.std.specs.FinSet as set
 use Rattle.std.proofs.lemmas.Bool.{cases_lt, and_parts}
 use Rattle.std.proofs.lemmas.List.Elements.{All-weaker, All-get_or}
 use Rattle.std.proofs.lemmas.Map.Steps.{length-le_from_distinct_below}
+use Rattle.d64_image.specs.Disk.{AreBytes}
 use Rattle.d64_image.specs.declared.block.TheConstants.{BLOCKS}
 use Rattle.d64_image.specs.BlockSet.{MembersAreBelow}
 use Rattle.d64_image.specs.Image.{IsImage, IsSize, tracks_of, sector_at}
@@ -21,7 +22,7 @@ use Rattle.d64_files.specs.Writing.{with_chain, entry_bytes, first_unused}
 use Rattle.d64_files.specs.declared.kind.Kind.{Kind}
 use Rattle.d64_files.proofs.Chains.{kept}
 use Rattle.d64_files.proofs.FileBlocks.{needs_one}
-use Rattle.d64_effects.specs.Laws.{AreBytes, HasRoom}
+use Rattle.d64_effects.specs.Laws.{HasRoom}
 use Rattle.d64_effects.specs.View.{IsSound}
 use Rattle.d64_files.specs.DiskHeader.{disk_field, disk_id}
 use Rattle.d64_effects.specs.Write.{taken_by, directory_grown, blocks_without, with_new_entry, with_file, written_disk}

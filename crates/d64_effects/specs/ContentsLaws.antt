@@ -1,7 +1,7 @@
 -- The effect of the commands on the directory's list of names and contents: on disks, and on views,
 -- whose steps are these steps on that list.
 use Rattle.std.specs.Prelude.{◌≡◌, ℕ, not, List, [], length, filter, Option, IfSome}
-use Rattle.d64_image.specs.Disk.{Disk, Bytes}
+use Rattle.d64_image.specs.Disk.{Disk, Bytes, AreBytes}
 use Rattle.d64_image.specs.Image.{IsSize, IsImage}
 use Rattle.d64_files.specs.Directory.{AllHold}
 use Rattle.d64_files.specs.Name.{IsName}
@@ -11,7 +11,7 @@ use Rattle.d64_effects.specs.ContentsAfter.{list_with, new_row, is_scratched_row
 use Rattle.d64_effects.specs.Delete.{scratched_disk}
 use Rattle.d64_effects.specs.DiskName.{named_disk}
 use Rattle.d64_effects.specs.Format.{formatted_disk}
-use Rattle.d64_effects.specs.Laws.{AreTwoBytes, AreBytes, HasRoom, IsWritable}
+use Rattle.d64_effects.specs.Laws.{AreTwoBytes, HasRoom, IsWritable}
 use Rattle.d64_effects.specs.Rename.{renamed_disk}
 use Rattle.d64_effects.specs.Validate.{validated_disk}
 use Rattle.d64_effects.specs.View.{View, IsSound, view}

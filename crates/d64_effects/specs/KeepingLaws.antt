@@ -1,12 +1,12 @@
 -- Files that a command doesn't name keep their slot, their chain and their content.
 use Rattle.std.specs.Prelude.{◌≡◌, ◌≢◌, ℕ, true, false, List, length, slice_get, Option, Some, IfSome}
-use Rattle.d64_image.specs.Disk.{Disk, Bytes}
+use Rattle.d64_image.specs.Disk.{Disk, Bytes, AreBytes}
 use Rattle.d64_files.specs.Name.{IsName, name_in}
 use Rattle.d64_files.specs.Directory.{AllHold}
 use Rattle.d64_image.specs.Image.{IsImage}
 use Rattle.d64_effects.specs.Delete.{scratched_disk}
 use Rattle.d64_effects.specs.DiskName.{named_disk}
-use Rattle.d64_effects.specs.Laws.{HasRoom, AreBytes, AreTwoBytes, IsWritable}
+use Rattle.d64_effects.specs.Laws.{HasRoom, AreTwoBytes, IsWritable}
 use Rattle.d64_effects.specs.Rename.{renamed_disk}
 use Rattle.d64_effects.specs.Undelete.{CanComeBack, undeleted_disk}
 use Rattle.d64_effects.specs.Validate.{validated_disk}

@@ -1,6 +1,6 @@
 -- What follows from the definitions of the effects.
-use Rattle.std.specs.Prelude.{◌≡◌, ◌≢◌, ℕ, ◌-◌, ◌<◌, ◌≤◌, List, All, length, filter, Option, None, IfSome}
-use Rattle.d64_image.specs.Disk.{Disk, Bytes}
+use Rattle.std.specs.Prelude.{◌≡◌, ◌≢◌, ℕ, ◌-◌, ◌≤◌, List, All, length, filter, Option, None, IfSome}
+use Rattle.d64_image.specs.Disk.{Disk, Bytes, AreBytes}
 use Rattle.d64_files.specs.Name.{IsName}
 use Rattle.d64_files.specs.Directory.{slots, AllHold}
 use Rattle.d64_files.specs.Writing.{blocks_for, first_unused, dir_last}
@@ -24,7 +24,7 @@ use Rattle.d64_files.specs.declared.kind.Kind.TheVariants.{Del, Rel}
 
 -- two bytes, as in an id
 abbrev pub AreTwoBytes : Bytes → Type 0
-AreTwoBytes id = (length id ≡ 2) × All (λ byte. byte < 256) id
+AreTwoBytes id = (length id ≡ 2) × AreBytes id
 
 -- a formatted disk is an image
 abbrev pub FormattedIsImage : Type 0
@@ -60,10 +60,6 @@ FormattedShows = (count : ℕ) (name id : Bytes) → IsSize count → IsName nam
 pub record HasRoom (image : Disk) (bytes : ℕ) : Type 0 where
   pub blocks : blocks_for bytes ≤ room (free_blocks image)
   pub slot : first_unused (slots image) ≡ None → next_of_directory (free_blocks image) (dir_last image) ≢ None
-
--- the numbers are bytes
-abbrev pub AreBytes : Bytes → Type 0
-AreBytes bytes = All (λ byte. byte < 256) bytes
 
 -- a kind of file that can be written
 abbrev pub IsWritable : Kind → Type 0

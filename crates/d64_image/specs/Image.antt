@@ -1,13 +1,13 @@
 -- Images: lists of blocks of 256 bytes, of 35 or of 40 tracks, and how two of them differ.
-use Rattle.std.specs.Prelude.{◌≡◌, ℕ, ◌<◌, ◌≤◌, ◌==◌, ◌||◌, ◌⊎◌, not, Bool, if◌then◌else◌, Option, Some, None, [], length, filter, All, slice_index_or, slice_set, nat_eq}
+use Rattle.std.specs.Prelude.{◌≡◌, ℕ, ◌≤◌, ◌==◌, ◌||◌, ◌⊎◌, not, Bool, if◌then◌else◌, Option, Some, None, [], length, filter, All, slice_index_or, slice_set, nat_eq}
 use Rattle.std.specs.List.{flat_map, range_with_len}
 use Rattle.std.specs.Cmp.Lexicographic.{pointwise}
-use Rattle.d64_image.specs.Disk.{Disk, Bytes, Blocks}
+use Rattle.d64_image.specs.Disk.{Disk, Bytes, Blocks, AreBytes}
 use Rattle.d64_image.specs.declared.image.TheConstants.{BLOCK_BYTES}
 
--- a block's content is 256 bytes, each a number below 256
+-- a block's content is 256 bytes
 abbrev pub IsBlock : Bytes → Type 0
-IsBlock bytes = (length bytes ≡ BLOCK_BYTES) × All (λ byte. byte < 256) bytes
+IsBlock bytes = (length bytes ≡ BLOCK_BYTES) × AreBytes bytes
 
 -- how many blocks an image has: 683 of 35 tracks or 768 of 40
 abbrev pub IsSize : ℕ → Type 0

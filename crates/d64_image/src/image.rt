@@ -3,6 +3,7 @@ ghost use Rattle.std.specs.Prelude.{◌≡◌, ◌<◌, ◌*◌, if◌then◌els
 ghost use Rattle.std.specs.Borrow.{sem};
 ghost use Rattle.std.specs.List.{range_with_len};
 ghost use Rattle.std.specs.Cmp.Lexicographic.{pointwise};
+ghost use Rattle.d64_image.specs.Disk.{AreBytes};
 ghost use Rattle.d64_image.specs.Image.{IsBlock, IsImage, IsSize, blocks_of, bytes_of, is_image_length, sector_at, tracks_of};
 ghost use Rattle.d64_image.specs.ImageFault.{wrong_length};
 
@@ -58,7 +59,7 @@ fn known_lengths(_sectors: &[[u8; BLOCK_BYTES]])
 /// Does nothing: its contract states what the bytes of a slice are, for callers that need it in a
 /// proof.
 pub fn known_bytes(_bytes: &[u8])
-    ensures { All (λ byte. byte < 256) _bytes.now }
+    ensures { AreBytes _bytes.now }
 {}
 
 /// How many blocks an image of this many tracks has, or None if no image has as many.

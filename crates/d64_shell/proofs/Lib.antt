@@ -1,3 +1,2 @@
 mod ProgramRuns
 mod JobEnds
-mod Errors

@@ -1,14 +1,13 @@
 -- What the program does with its arguments, its streams and a host.
-use Rattle.std.specs.Prelude.{◌≡◌, ℕ, List, ◌∷◌, map, codes, ◌⊎◌, ⊤}
-use Rattle.host_storage.specs.Shown.{shown_name}
-use Rattle.program_arguments.specs.Requested.{IsFault, IsJob, IsHelpOrVersion}
+use Rattle.std.specs.Prelude.{◌≡◌, ℕ, List, ◌⊎◌}
+use Rattle.program_arguments.specs.Requested.{IsFault, IsJob}
 use Rattle.program_arguments.specs.declared.jobs.Job.{Job}
 use Rattle.program_arguments.specs.declared.jobs.JobFault.{JobFault}
-use Rattle.program_arguments.specs.declared.jobs.JobFault.TheVariants.{Words}
 use Rattle.program_surveys.specs.FileOutcomes.{by_rule}
 use Rattle.cmd_extract.specs.Effects.{unpacks}
 use Rattle.program_console.specs.Outside.{Outside}
 use Rattle.program_console.specs.NoJob.{ReportsNoJob}
+use Rattle.program_console.specs.RequestedJob.{named_arguments, shown_arguments, IsErrorOf}
 use Rattle.cmd_basic.specs.ToolRuns.{EndedConversion}
 use Rattle.cmd_diff.specs.Comparisons.{EndedComparison}
 use Rattle.program_surveys.specs.JobEnds.{EndedSurvey}
@@ -24,19 +23,6 @@ EndedWork (Survey rule heading files) old new status = EndedSurvey (by_rule rule
 EndedWork (Extraction setup heading files) old new status = EndedSurvey (unpacks setup) heading files old new status
 EndedWork (Comparison rule old_name new_name) old new status = EndedComparison rule old_name new_name old new status
 EndedWork (Merging setup) old new status = EndedMerge setup old new status
-
--- the arguments with the program's name before them
-abbrev pub named_arguments : List (List ℕ) → List (List ℕ)
-named_arguments after = codes "d64sh" ∷ after
-
--- arguments, each shown as a name of the host
-abbrev pub shown_arguments : List (List ℕ) → List (List ℕ)
-shown_arguments arguments = map shown_name arguments
-
--- a fault that is an error of clap's, and neither help nor version, is an error of these arguments
-abbrev pub IsErrorOf : List (List ℕ) → JobFault → Type 0
-IsErrorOf arguments (Words error) = IsHelpOrVersion (Words error) ⊎ IsFault arguments (Words error)
-IsErrorOf arguments fault = ⊤
 
 -- the arguments ask for the shell
 abbrev pub AsksForShell : List (List ℕ) → Type 0

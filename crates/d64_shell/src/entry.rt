@@ -10,7 +10,6 @@ ghost use Rattle.cmd_basic.specs.ToolRuns.{EndedConversion};
 ghost use Rattle.cmd_shell.specs.Scripts.{beginning_in, options_in, source_in};
 ghost use Rattle.cmd_shell.specs.ShellRuns.{EndedShell};
 
-use crate::asking::requested_job;
 use cmd_basic::{Tool, ToolJob};
 use cmd_catalogue::make_catalogue;
 use cmd_check::check_disks;
@@ -23,7 +22,7 @@ use cmd_shell::{BlankDisk, ShellJob, exit_status, refusals_of};
 use host_storage::{Host, HostFault, InputStream, OutputStream};
 use out_files::Form;
 use program_arguments::Job;
-use program_console::{Console, NOT_RUN, report_no_job};
+use program_console::{Console, NOT_RUN, report_no_job, requested_job};
 use script_commands::{Nobody, Observer};
 use std::alloc::Global;
 use std::io::{Read, Write};

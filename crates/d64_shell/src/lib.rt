@@ -2,7 +2,6 @@
 //! subcommand runs, and exports what its callers need of the libraries below.
 #![tactic(auto)]
 
-mod asking;
 mod entry;
 
 pub use cmd_basic::{ToolFault, crunch_run, petcat_run};

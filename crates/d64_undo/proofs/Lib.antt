@@ -1,15 +1,2 @@
-pub mod Histories
-pub mod Records
-pub mod Sessions
 pub mod SoundHistories
-pub mod Leads
-pub mod SessionFiles
-pub mod FileLengths
-pub mod FilesRead
-pub mod FilesTaken
-pub mod Resumed
-pub mod Reading
-pub mod Pieces
-pub mod Given
-pub mod Readers
 pub mod Runs

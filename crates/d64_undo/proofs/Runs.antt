@@ -4,7 +4,7 @@ use Rattle.std.proofs.lemmas.List.Elements.{All-head, All-tail}
 use Rattle.std.specs.Prelude.{MatchOption}
 use Rattle.d64_dos.specs.Command.{row}
 use Rattle.d64_dos.specs.Refusal.{cause_of}
-use Rattle.d64_undo.specs.History.{History}
+use Rattle.d64_history.specs.History.{History}
 use Rattle.d64_undo.specs.Request.{Asked, Apply, Undo, Redo, IsAskedOf, Step, Run, HasMemory}
 use Rattle.d64_dos.specs.declared.refusal.Refusal.{Refusal}
 use Rattle.d64_dos.specs.declared.refusal.Refusal.TheVariants.{NotClosed, NotFound, Exists, WrongType, Directory, Lost, DiskFull, Memory}

@@ -3,12 +3,12 @@ use Rattle.std.proofs.Common.{◌≡◌, ℕ, ◌+◌, ◌<◌, List, [], ◌∷
 use Rattle.std.specs.Prelude.{All}
 use Rattle.std.proofs.lemmas.List.Elements.{All-nil, All-cons, All-append, All-take, All-get_or}
 use Rattle.d64_effects.specs.View.{IsSound}
-use Rattle.d64_undo.specs.History.{History, IsHistory, present_image, new_history, extended_history, undone_history, redone_history}
+use Rattle.d64_history.specs.History.{History, IsHistory, present_image, new_history, extended_history, undone_history, redone_history}
 use Rattle.d64_undo.specs.SoundHistory.{IsSoundHistory, HoldsSoundDisks, KeepsDisksSound}
 use Rattle.d64_undo.specs.Request.{Asked, Apply, Undo, Redo, Step}
 use Rattle.d64_undo.specs.declared.request.RequestOutcome.{RequestOutcome}
 use Rattle.d64_undo.specs.declared.request.RequestOutcome.TheVariants.{Accepted, Refused, Undone, Redone, NothingToUndo, NothingToRedo}
-use Rattle.d64_undo.proofs.Histories.{IsHistory-extended_history}
+use Rattle.d64_history.proofs.Histories.{IsHistory-extended_history}
 use Rattle.d64_image.specs.Image.{IsImage}
 use Rattle.d64_dos.specs.Command.{image_after}
 use Rattle.d64_dos.proofs.Steps.{keeps_sound, starts_from_sound}

@@ -1,10 +1,2 @@
-pub mod History
-pub mod HistoryLaws
-pub mod Records
 pub mod SoundHistory
 pub mod Request
-pub mod SessionFile
-pub mod ResumeFault
-pub mod Resuming
-pub mod FromReader
-pub mod SessionFileLaws

@@ -1,9 +1,9 @@
--- Requests to a session, its replies, and runs of requests.
+-- Requests to a session, their outcomes, and runs of requests.
 use Rattle.std.specs.Prelude.{◌≡◌, ◌≢◌, ◌+◌, ◌<◌, ◌≤◌, List, [], ◌∷◌, length, None, All}
 use Rattle.d64_image.specs.Disk.{Disk}
 use Rattle.d64_dos.specs.Command.{image_after, reply_to, refusal_of, IsWithin}
 use Rattle.d64_dos.specs.Refusal.{cause_of}
-use Rattle.d64_undo.specs.History.{History, present_image, extended_history, undone_history, redone_history}
+use Rattle.d64_history.specs.History.{History, present_image, extended_history, undone_history, redone_history}
 use Rattle.d64_dos.specs.Change.{Change, change_of}
 use Rattle.d64_dos.specs.declared.refusal.Refusal.TheVariants.{Memory}
 use Rattle.d64_undo.specs.declared.request.Request.{Request}
@@ -30,7 +30,7 @@ IsAskedOf image (Apply change) = IsWithin image change
 IsAskedOf image Undo = Unit {0}
 IsAskedOf image Redo = Unit {0}
 
--- a request, its reply, and the history before and after it; the only choice is that memory is out
+-- a request, its outcome, and the history before and after it; the only choice is that memory is out
 -- in place of an acceptance
 abbrev pub Step : History → Asked → RequestOutcome → History → Type 0
 Step history (Apply change) (Accepted reply) next =
@@ -45,7 +45,7 @@ Step history Redo Redone next = (history.cursor + 1 < length history.images) × 
 Step history Redo NothingToRedo next = (length history.images ≤ history.cursor + 1) × (next ≡ history)
 Step history request outcome next = ⊥
 
--- requests, their replies in turn, and the history before and after them
+-- requests, their outcomes in turn, and the history before and after them
 abbrev pub Run : History → List Asked → List RequestOutcome → History → Type 0
 Run history [] [] next = next ≡ history
 Run history (request ∷ requests) (outcome ∷ outcomes) next =

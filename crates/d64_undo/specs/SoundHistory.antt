@@ -7,7 +7,7 @@ use Rattle.d64_dos.specs.declared.command.Reply.{Reply}
 use Rattle.d64_dos.specs.declared.refusal.Refusal.{Refusal}
 use Rattle.d64_effects.specs.View.{IsSound}
 use Rattle.d64_image.specs.Image.{IsImage}
-use Rattle.d64_undo.specs.History.{History, IsHistory}
+use Rattle.d64_history.specs.History.{History, IsHistory}
 use Rattle.d64_undo.specs.Request.{Asked, Apply, Undo, Redo}
 
 -- all images of a history are sound

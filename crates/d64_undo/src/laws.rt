@@ -1,24 +1,12 @@
 //! Laws of histories and of runs: each function's contract is a law, and its body is empty.
 //!
 //! A caller whose proof needs a law calls the function.
-ghost use Rattle.d64_undo.specs.HistoryLaws.{UndoAfterCommand, RedoAfterUndo, Retraced};
 ghost use Rattle.d64_undo.specs.Request.{MemoryAloneIsFree, MemoryForAcceptance};
-ghost use Rattle.d64_undo.specs.SessionFileLaws.{FilesDecide, FilesAreFaultless, FaultlessAreFiles, KeptIsResumed};
 
-/// Undo after an accepted command gives the image from before it.
-pub fn undo_after_command()
-    ensures { UndoAfterCommand }
-{}
-
-/// Redo after undo gives back the history, and so does undo after redo.
-pub fn redo_after_undo()
-    ensures { RedoAfterUndo }
-{}
-
-/// Undos after accepted commands, and then redos, go through each image again.
-pub fn retraced()
-    ensures { Retraced }
-{}
+pub use d64_history::laws::{
+    kept_is_resumed, redo_after_undo, retraced, session_files_are_faultless, session_files_decide,
+    undo_after_command,
+};
 
 /// As long as memory suffices, the results of a run of requests depend only on the history and the
 /// requests.
@@ -29,21 +17,4 @@ pub fn memory_alone_is_free()
 /// Only a command that would be accepted can run out of memory, and then the history is unchanged.
 pub fn memory_for_acceptance()
     ensures { MemoryForAcceptance }
-{}
-
-/// Bytes are the session file of at most one history.
-pub fn session_files_decide()
-    ensures { FilesDecide }
-{}
-
-/// The file of each history has no fault, and bytes without a fault are the file of a history.
-pub fn session_files_are_faultless()
-    ensures faultless { FilesAreFaultless }
-    ensures files { FaultlessAreFiles }
-{}
-
-/// What was kept is resumed with the same history and cursor, or memory is out: for the file of a
-/// history, nothing else meets the contract of `resume`.
-pub fn kept_is_resumed()
-    ensures { KeptIsResumed }
 {}

@@ -1,6 +1,6 @@
 //! Requests to a session, and whole runs of them.
 ghost use Rattle.std.specs.Prelude.{◌≡◌, length, map, All, IfOk, OnErr};
-ghost use Rattle.d64_undo.specs.History.{present_image};
+ghost use Rattle.d64_history.specs.History.{present_image};
 ghost use Rattle.d64_undo.specs.Request.{asked_by, IsAskedOf, Step, Run};
 
 use crate::session::{NothingToRedo, NothingToUndo, Session};
@@ -16,7 +16,7 @@ pub enum Request {
     Redo,
 }
 
-/// The reply of a session to a request.
+/// The outcome of a request to a session.
 #[derive(Clone, Copy, Debug, PartialEq, Eq)]
 pub enum RequestOutcome {
     Accepted(Reply),
@@ -27,7 +27,7 @@ pub enum RequestOutcome {
     NothingToRedo,
 }
 
-/// Runs one request. Returns the reply.
+/// Runs one request, and returns its outcome.
 fn run_one(session: &mut Session, request: &Request) -> RequestOutcome
     requires { IsAskedOf (present_image session.old) (asked_by request.now) }
     ensures step { Step session.old (asked_by request.now) result session.new }
@@ -49,8 +49,8 @@ fn run_one(session: &mut Session, request: &Request) -> RequestOutcome
     }
 }
 
-/// Runs the requests one after another, and returns their replies. If there is no memory for the
-/// replies themselves, no request has run. The image has the block that each block write names.
+/// Runs the requests one after another, and returns their outcomes. If there is no memory for the
+/// outcomes themselves, no request has run. The image has the block that each block write names.
 pub fn run_all(
     alloc: Global,
     session: &mut Session,

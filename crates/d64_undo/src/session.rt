@@ -1,16 +1,16 @@
 //! Sessions: an image with undo and redo.
-ghost use Rattle.std.specs.Prelude.{◌≡◌, ◌+◌, ◌^◌, ◌<◌, ◌≤◌, ◌↔◌, ◌⊎◌, length, option_copied, IsOk, OnOk, OnErr, IfOk};
+ghost use Rattle.std.specs.Prelude.{◌≡◌, ◌+◌, ◌^◌, ◌<◌, ◌≤◌, ◌↔◌, length, option_copied, IsOk, OnOk, OnErr, IfOk};
 ghost use Rattle.d64_dos.specs.Change.{change_of};
 ghost use Rattle.d64_dos.specs.Command.{image_after, reply_to, refusal_of, IsWithin};
 ghost use Rattle.d64_dos.specs.Refusal.{refused_by};
 ghost use Rattle.d64_effects.specs.View.{IsSound};
-ghost use Rattle.d64_undo.specs.History.{IsHistory, present_image, new_history, extended_history, undone_history, redone_history, record_len, record_at};
-ghost use Rattle.d64_undo.specs.Records.{images_of, AreRecords};
-ghost use Rattle.d64_undo.specs.SessionFile.{file_of, IsSession};
+ghost use Rattle.d64_history.specs.Held.{IsHeld, held_history};
+ghost use Rattle.d64_history.specs.History.{IsHistory, present_image, new_history, extended_history, undone_history, redone_history, record_len, record_at};
+ghost use Rattle.d64_history.specs.SessionFile.{file_of, IsSession};
 ghost use Rattle.d64_undo.specs.SoundHistory.{IsSoundHistory, KeepsSound};
 
-use crate::keeping::session_file;
 use d64_dos::{Command, Refusal, Reply, apply_knowing};
+use d64_history::{HeldHistory, session_file};
 use d64_image::{BLOCK_BYTES, BlockNo, Image, Patch, PatchList, Place};
 use std::alloc::{AllocError, Global};
 use std::marker::Model;
@@ -50,12 +50,13 @@ impl Model for Session {
     ghost use Rattle.std.specs.Prelude.{◌≡◌, ◌≤◌, true, [], length};
     ghost use Rattle.d64_image.specs.PatchList.{blocks_before};
     ghost use Rattle.d64_effects.specs.View.{IsSound};
-    ghost use Rattle.d64_undo.specs.History.{History};
-    ghost use Rattle.d64_undo.specs.Records.{images_of, AreRecords};
+    ghost use Rattle.d64_history.specs.History.{History};
+    ghost use Rattle.d64_history.specs.Held.{history_of};
+    ghost use Rattle.d64_history.specs.Records.{AreRecords};
 
     ghost Value = { History };
 
-    ghost view = { λ s. record { images = images_of s.records s.image s.cursor.number; cursor = s.cursor.number } };
+    ghost view = { λ s. history_of s.records s.image s.cursor.number };
 
     ghost invariant = { λ s. (s.cursor.number ≤ length s.records)
         × AreRecords s.records s.image s.cursor.number
@@ -81,22 +82,15 @@ impl Session {
         }
     }
 
-    /// A session of a present image, and records that lead away from it, of which `done` are done.
-    pub(crate) fn of_records(
-        alloc: Global,
-        present: Image,
-        records: PatchList,
-        done: usize,
-    ) -> Session
-        requires within { done ≤ length records }
-        requires lead { AreRecords records present done }
-        ensures images { result.images ≡ images_of records present done }
-        ensures cursor { result.cursor ≡ done }
+    /// A session with a history that is held.
+    pub(crate) fn of_held(alloc: Global, held: HeldHistory) -> Session
+        requires { IsHeld held }
+        ensures { result ≡ held_history held }
     {
-        let cursor = records.place_before(done);
+        let cursor = held.records.place_before(held.done);
         Session {
-            image: present,
-            records,
+            image: held.image,
+            records: held.records,
             cursor,
             is_sound: false,
             change: Patch::new(alloc),

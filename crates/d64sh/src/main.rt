@@ -4,10 +4,11 @@
 
 ghost use Rattle.program_console.specs.Console.{IsFresh};
 
-use d64_shell::{Console, FolderHost, Job, Nobody, ObservedProgram, ProgramFault, Subcommand, job};
+use d64_shell::{Console, FolderHost, Nobody, ObservedProgram, ProgramFault, Subcommand};
 use host_storage::{Host, InputStream, OutputStream, Retrying, SizeLimit, StandardStream};
 use program_console::{
     MarkingWriter, ProgressLine, QuietWriter, WatchedHost, WipingWriter, WithinLimit,
+    asks_for_program,
 };
 use script_hints::Advisor;
 use std::alloc::Global;
@@ -147,21 +148,6 @@ fn run_unadvised<R: Read, W: Write, F: Write, H: Host>(
         observer: &mut nobody,
     };
     program.run(arguments, console, host)
-}
-
-/// Whether the arguments ask for a program on the output, as `crunch` writes it without `-o`; false
-/// if memory runs out as they are read.
-fn asks_for_program(alloc: Global, arguments: &[&str]) -> bool {
-    let mut named = Vec::new(alloc);
-    if named.push("d64sh").is_err() || named.extend_from_slice(arguments).is_err() {
-        return false;
-    }
-    job(alloc, named.as_slice()).is_ok_and(|job| is_for_program(&job))
-}
-
-/// Whether a job is to write a program to the output.
-fn is_for_program(job: &Job) -> bool {
-    matches!(job, Job::Crunch { output: None, .. })
 }
 
 /// Whether the first argument is a subcommand whose output may go unread without a fault.

@@ -3,3 +3,4 @@ pub mod Faults
 pub mod NoJob
 pub mod Outside
 pub mod Reasons
+pub mod RequestedJob

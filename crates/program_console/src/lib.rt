@@ -3,6 +3,8 @@
 //! cannot be read or written, and the exit statuses; and the streams of the process, with the line
 //! that shows progress at a terminal, output whose reader has gone, and files that may not grow.
 //!
+//! It reads the arguments, too: the job that they ask for, or a fault whose text can be shown.
+//!
 //! `d64sh` alone uses those streams. They are in a library so that they can be proved before it,
 //! which comes after all other crates.
 #![tactic(auto)]
@@ -13,6 +15,7 @@ mod no_job;
 mod program_fault;
 mod progress;
 mod reason;
+mod requested;
 mod stream_fault;
 mod unread_output;
 mod within_limit;
@@ -23,6 +26,7 @@ pub use no_job::report_no_job;
 pub use program_fault::ProgramFault;
 pub use progress::{ProgressLine, WatchedHost, WipingWriter};
 pub use reason::{Reason, push_known_reason, reason_of, reason_unwritten};
+pub use requested::{asks_for_program, requested_job};
 pub use stream_fault::StreamFault;
 pub use unread_output::{MarkingWriter, QuietWriter};
 pub use within_limit::WithinLimit;

@@ -1,21 +1,20 @@
 //! What a line of a script does and prints, and the handler of its command.
-#![tactic(auto, unfolding(crate::specs::Act::Does, crate::specs::Line::act_of_line))]
+#![tactic(auto, unfolding(script_lines::specs::Act::Does, script_lines::specs::Line::act_of_line))]
 
 ghost use Rattle.std.specs.Prelude.{◌≡◌, ◌≤◌, ℕ, List, All, map, length, MatchOption, option_copied};
 ghost use Rattle.script_text.specs.HeldLine.{HoldsText};
 ghost use Rattle.script_text.specs.Words.{IsPrintable};
-ghost use Rattle.d64_undo.specs.History.{present_image};
-ghost use Rattle.script_commands.specs.Act.{world_of};
-ghost use Rattle.script_commands.specs.Response.{shown_response, Responds};
-ghost use Rattle.script_commands.specs.Line.{act_of_words, act_of_text, act_of_line, IsSkipped, IsExecuted};
-ghost use Rattle.script_commands.specs.LineValue.{act_of};
+ghost use Rattle.d64_history.specs.History.{present_image};
+ghost use Rattle.script_lines.specs.Act.{world_of};
+ghost use Rattle.script_lines.specs.Response.{shown_response, Responds};
+ghost use Rattle.script_lines.specs.Line.{act_of_words, act_of_text, act_of_line, IsSkipped, IsExecuted};
+ghost use Rattle.script_lines.specs.LineValue.{act_of};
 
 use crate::handlers;
-use crate::line::Line;
-use crate::response::Response;
 use arrayvec::ArrayVec;
 use d64_undo::Session;
 use host_storage::Host;
+use script_lines::{Line, Response};
 use script_text::held_line::HeldLine;
 use script_text::raw_lines;
 use script_text::status::Status;

@@ -1,35 +1,33 @@
 //! The effect of each command: a handler for each.
-#![tactic(auto, unfolding(crate::specs::Act::Does))]
+#![tactic(auto, unfolding(script_lines::specs::Act::Does))]
 
 ghost use Rattle.std.specs.Prelude.{◌≡◌, ◌<◌, ◌≤◌, All, Some, None, [], map, option_copied, option_map, length};
 ghost use Rattle.d64_dos.specs.Change.{change_of};
 ghost use Rattle.d64_dos.specs.Command.{IsWithin};
-ghost use Rattle.script_commands.specs.Response.{Responds, RespondsAlone};
+ghost use Rattle.script_lines.specs.Response.{Responds, RespondsAlone};
 ghost use Rattle.petscii.specs.Spelling.{spelling};
-ghost use Rattle.script_commands.specs.FoundFile.{can_name_file};
-ghost use Rattle.d64_undo.specs.History.{History, present_image};
-ghost use Rattle.script_commands.specs.Line.{put, host_file_limit, block_act, block_read_act, block_write_act, crunch_act, write_program, delete_act, format_act, history_act, keep_act, list_act, name_act, name_parts, petcat_act, show_program, quit_act, read_act, read_to, redo_act, rename_act, save_act, show_file, type_act, undelete_act, undo_act, validate_act, write_act, run, write_one_block};
+ghost use Rattle.script_lines.specs.FoundFile.{can_name_file};
+ghost use Rattle.d64_history.specs.History.{History, present_image};
+ghost use Rattle.script_text.specs.declared.status.Status.TheVariants as statuses;
+ghost use Rattle.script_lines.specs.Line.{put, host_file_limit, block_act, block_read_act, block_write_act, crunch_act, write_program, delete_act, format_act, history_act, keep_act, list_act, name_act, name_parts, petcat_act, show_program, quit_act, read_act, read_to, redo_act, rename_act, save_act, show_file, type_act, undelete_act, undo_act, validate_act, write_act, run, write_one_block};
 
-use crate::arguments::{
-    at_comma, block_in, host_in, id_in, name_and_kind_in, name_and_kind_of, name_in, name_word,
-    pattern_in, patterns_in,
-};
-use crate::file_text::file_text;
 use crate::history_text::history_text;
-use crate::host_file::{HOST_FILE_BYTES, fetch};
-use crate::listing_text::listing_text;
-use crate::response::{Output, Response};
-use crate::status_from::{
-    of_basic_fault, of_fault, of_list_fault, of_nothing_to_redo, of_nothing_to_undo, of_refusal,
-    of_reply,
-};
 use cbm_text::PROGRAM_START;
 use d64_dos::Command;
 use d64_files::{Kind, Name, Pattern};
 use d64_image::BlockNo;
-use d64_undo::Session;
+use d64_undo::{NothingToRedo, NothingToUndo, Session};
 use host_storage::Host;
 use petscii::to_text;
+use script_lines::arguments::{
+    at_comma, block_in, host_in, id_in, name_and_kind_in, name_and_kind_of, name_in, name_word,
+    pattern_in, patterns_in,
+};
+use script_lines::file_text::file_text;
+use script_lines::host_file::{HOST_FILE_BYTES, fetch};
+use script_lines::listing_text::listing_text;
+use script_lines::status_from::{of_basic_fault, of_fault, of_list_fault, of_refusal, of_reply};
+use script_lines::{Output, Response};
 use script_text::status::Status;
 use std::alloc::Global;
 use std::str;
@@ -437,9 +435,23 @@ fn spelling_is_ascii(bytes: &[u8])
 {}
 
 /// Whether a text can name a host file: it isn't empty, `.` or `..`, and has no `/`.
-#[tactic(auto, unfolding(crate::specs::FoundFile::can_name_file))]
+#[tactic(auto, unfolding(script_lines::specs::FoundFile::can_name_file))]
 fn is_file_name(text: &[u8]) -> bool
     ensures { result ≡ can_name_file text.now }
 {
     !matches!(text, b"" | b"." | b"..") && !text.contains(&b'/')
+}
+
+/// The status of an undo that was refused.
+fn of_nothing_to_undo(_refusal: NothingToUndo) -> Status
+    ensures { result ≡ statuses.NothingToUndo }
+{
+    Status::NothingToUndo
+}
+
+/// The status of a redo that was refused.
+fn of_nothing_to_redo(_refusal: NothingToRedo) -> Status
+    ensures { result ≡ statuses.NothingToRedo }
+{
+    Status::NothingToRedo
 }

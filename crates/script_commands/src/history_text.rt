@@ -1,6 +1,6 @@
 //! The lines of a history.
 ghost use Rattle.std.specs.Prelude.{◌≡◌, ◌<◌, ◌-◌, ◌^◌, ◌++◌, codes, if◌then◌else◌, OnOk, IfOk};
-ghost use Rattle.script_commands.specs.HistoryText.{record_line, history_text};
+ghost use Rattle.script_lines.specs.HistoryText.{record_line, history_text};
 
 use d64_undo::Session;
 use itoa::Buffer;
@@ -21,7 +21,7 @@ pub(crate) fn history_text(alloc: Global, session: &Session) -> Result<Vec<u8>, 
 }
 
 /// Appends the line of a record.
-#[tactic(auto, unfolding(crate::specs::HistoryText::record_line))]
+#[tactic(auto, unfolding(script_lines::specs::HistoryText::record_line))]
 fn push_record(text: &mut Vec<u8>, session: &Session, number: usize) -> Result<(), AllocError>
     requires { number < 2 ^ 64 - 1 }
     ensures { OnOk result (text.new.items ≡ text.old.items ++ record_line session.now number) }

@@ -4,8 +4,8 @@ use Rattle.std.specs.FinMap.{insert}
 use Rattle.d64_image.specs.Disk.{Bytes}
 use Rattle.host_storage.specs.Files.{HostState}
 use Rattle.host_storage.specs.Folders.{Looks}
-use Rattle.d64_undo.specs.History.{History}
-use Rattle.d64_undo.specs.SessionFile.{file_of}
+use Rattle.d64_history.specs.History.{History}
+use Rattle.d64_history.specs.SessionFile.{file_of}
 use Rattle.host_storage.specs.Shown.{shown_name}
 
 -- the file that keeps the session of an image

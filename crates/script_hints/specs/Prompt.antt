@@ -1,7 +1,7 @@
 -- The prompt: which image a session is of, and whether it has changes that are not saved.
 use Rattle.std.specs.Prelude.{◌++◌, Bool, Option, Some, None, if◌then◌else◌, codes}
 use Rattle.d64_image.specs.Disk.{Bytes}
-use Rattle.script_commands.specs.Arguments.{after_slash}
+use Rattle.script_lines.specs.Arguments.{after_slash}
 use Rattle.host_storage.specs.Shown.{shown_name}
 
 -- the name in the prompt: that of the image file, without its folders, as names are shown, if there

@@ -9,8 +9,8 @@ use Rattle.cbm_text.specs.declared.cause.Cause.{Cause}
 use Rattle.cbm_text.specs.declared.faulty_text.FaultyLine.{FaultyLine}
 use Rattle.host_storage.specs.Files.{HostState}
 use Rattle.host_storage.specs.Host.{Fetches}
-use Rattle.script_commands.specs.BasicFiles.{program_start}
-use Rattle.script_commands.specs.Line.{host_file_limit}
+use Rattle.script_lines.specs.BasicFiles.{program_start}
+use Rattle.script_lines.specs.Line.{host_file_limit}
 use Rattle.script_text.specs.declared.status.Status.{Status}
 use Rattle.script_text.specs.declared.status.Status.TheVariants.{BasicText}
 use Rattle.script_hints.specs.Advice.{advice, advice_words}

@@ -7,7 +7,7 @@ ghost use Rattle.script_text.specs.HeldLine.{HoldsText};
 ghost use Rattle.host_storage.specs.Output.{Writes};
 ghost use Rattle.program_console.specs.Outside.{account_at};
 ghost use Rattle.script_text.specs.Status.{is_accepted};
-ghost use Rattle.d64_undo.specs.History.{present_image};
+ghost use Rattle.d64_history.specs.History.{present_image};
 ghost use Rattle.script_hints.specs.Advice.{advice, advice_words, pieces};
 ghost use Rattle.std.specs.Option.{option_map_or};
 ghost use Rattle.script_hints.specs.LineStart.{line_start};

@@ -2,7 +2,7 @@
 ghost use Rattle.std.specs.Prelude.{◌≡◌, ◌++◌, IfOk, OnOk, OnErr, option_copied};
 ghost use Rattle.host_storage.specs.Output.{Writes};
 ghost use Rattle.program_console.specs.Outside.{account_at};
-ghost use Rattle.script_commands.specs.Arguments.{after_slash};
+ghost use Rattle.script_lines.specs.Arguments.{after_slash};
 ghost use Rattle.script_hints.specs.Prompt.{prompt_mark, name_in_prompt, prompt};
 
 use host_storage::{OutputStream, WriteFault, push_shown};

@@ -5,7 +5,7 @@ ghost use Rattle.script_hints.specs.TextCause.{HasCauseFirst, IsFirstCause, IsFo
 
 use cbm_text::{Cause, FaultyLine, PROGRAM_START, faulty_lines};
 use host_storage::Host;
-use script_commands::host_file::HOST_FILE_BYTES;
+use script_lines::host_file::HOST_FILE_BYTES;
 use script_text::status::Status;
 use std::alloc::{AllocError, Global};
 use std::str;

@@ -1,9 +1,9 @@
 use Rattle.std.proofs.Common.{◌∙◌, Ok, Err, ap, sym, refl, subst}
 use Rattle.host_storage.specs.Host.{one_more_failure}
 use Rattle.host_storage.specs.declared.host.HostFault.TheVariants.{Device, TooLong}
-use Rattle.d64_undo.specs.FromReader.{IsReadFault}
-use Rattle.d64_undo.specs.SessionFile.{file_of}
-use Rattle.d64_undo.specs.declared.from_reader.SessionReadFault.{SessionReadFault}
+use Rattle.d64_history.specs.FromReader.{IsReadFault}
+use Rattle.d64_history.specs.SessionFile.{file_of}
+use Rattle.d64_history.specs.declared.from_reader.SessionReadFault.{SessionReadFault}
 use Rattle.cmd_shell.specs.ShellRuns.{GivesNoSession, session_limit}
 use Rattle.program_console.specs.declared.program_fault.ProgramFault.{ProgramFault}
 use Rattle.cmd_shell.proofs.SessionFiles.{fetches_failed, fetches_none, fetches_read, fetches_too_long, gives_none}

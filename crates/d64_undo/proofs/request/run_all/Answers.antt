@@ -1,12 +1,12 @@
 use Rattle.std.proofs.Common.{◌≡◌, ◌+◌, List, [], ◌∷◌, ◌++◌, map, take, ap, sym, ◌∙◌, subst, arith}
 use Rattle.std.specs.Vec.{vec_len}
 use Rattle.std.proofs.lemmas.List.{map-append}
-use Rattle.d64_undo.specs.History.{present_image}
+use Rattle.d64_history.specs.History.{present_image}
 use Rattle.d64_undo.specs.Request.{Asked, asked_by, IsAskedOf, Run}
 use Rattle.d64_undo.specs.declared.request.Request.{Request}
 use Rattle.d64_undo.specs.declared.request.RequestOutcome.{RequestOutcome}
 use Rattle.d64_undo.proofs.Runs.{Run-push, asked_alike}
-use Rattle.d64_undo.proofs.Records.{take_on}
+use Rattle.d64_history.proofs.Records.{take_on}
 use Rattle.d64_undo.proofs.request.run_all.Goals as goal
 
 -- the run so far, and the step of this request

@@ -1,6 +1,6 @@
 use Rattle.std.proofs.Common.{◌≡◌, ◌≤◌, length, map, take}
 use Rattle.std.specs.Vec.{vec_len, vec_capacity}
-use Rattle.d64_undo.specs.History.{present_image}
+use Rattle.d64_history.specs.History.{present_image}
 use Rattle.d64_undo.specs.Request.{asked_by, Run}
 use Rattle.d64_undo.proofs.request.run_all.Given as goal
 

@@ -1,5 +1,5 @@
 use Rattle.std.proofs.Common.{sym, ◌∙◌, option_copied}
-use Rattle.script_commands.proofs.ExecutedLines.{IsExecuted-text}
+use Rattle.script_lines.proofs.ExecutedLines.{IsExecuted-text}
 use Rattle.script_commands.proofs.execution.execute_line.Goals as goal
 
 pub returns : goal.returns

@@ -1,7 +1,7 @@
 use Rattle.std.proofs.Common.{◌≡◌, Ok}
 use Rattle.d64_image.specs.Image.{sector_at}
-use Rattle.d64_undo.specs.History.{present_image}
-use Rattle.script_commands.specs.Arguments.{block_argument}
+use Rattle.d64_history.specs.History.{present_image}
+use Rattle.script_lines.specs.Arguments.{block_argument}
 use Rattle.script_commands.proofs.handlers.block_read.Goals as goal
 
 pub returns : goal.returns

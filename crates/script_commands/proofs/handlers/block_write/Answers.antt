@@ -1,7 +1,7 @@
 use Rattle.std.proofs.Common.{◌≡◌, Ok, Err, refl}
-use Rattle.d64_undo.specs.History.{present_image}
-use Rattle.script_commands.specs.Arguments.{block_argument}
-use Rattle.script_commands.proofs.Acts.{Does-given, Does-refused}
+use Rattle.d64_history.specs.History.{present_image}
+use Rattle.script_lines.specs.Arguments.{block_argument}
+use Rattle.script_lines.proofs.Acts.{Does-given, Does-refused}
 use Rattle.script_commands.proofs.handlers.block_write.Goals as goal
 
 pub returns-in-Ok : goal.returns-in-Ok

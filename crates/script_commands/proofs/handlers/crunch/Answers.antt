@@ -1,7 +1,7 @@
 use Rattle.std.proofs.Common.{Ok, Err, refl}
-use Rattle.script_commands.proofs.Acts.{Does-given, Does-refused}
-use Rattle.script_commands.proofs.BasicActs.{length-fetched}
-use Rattle.script_commands.proofs.TextArguments.{Does-read}
+use Rattle.script_lines.proofs.Acts.{Does-given, Does-refused}
+use Rattle.script_lines.proofs.BasicActs.{length-fetched}
+use Rattle.script_lines.proofs.TextArguments.{Does-read}
 use Rattle.script_commands.proofs.handlers.crunch.Goals as goal
 
 pub write_program-requires : goal.write_program-requires

@@ -1,7 +1,7 @@
 use Rattle.std.proofs.Common.{◌≡◌, Err, map, rules}
-use Rattle.script_commands.specs.Line.{delete_act}
-use Rattle.script_commands.specs.Response.{RespondsAlone}
-use Rattle.script_commands.proofs.TextArguments.{Does-read_each, Does-unread_each}
+use Rattle.script_lines.specs.Line.{delete_act}
+use Rattle.script_lines.specs.Response.{RespondsAlone}
+use Rattle.script_lines.proofs.TextArguments.{Does-read_each, Does-unread_each}
 use Rattle.script_commands.proofs.handlers.delete.Goals as goal
 
 pub returns-in_err-patterns : goal.returns-in_err-patterns

@@ -1,4 +1,4 @@
-use Rattle.script_commands.proofs.TextArguments.{Does-read}
+use Rattle.script_lines.proofs.TextArguments.{Does-read}
 use Rattle.script_commands.proofs.handlers.format.Goals as goal
 
 pub returns : goal.returns

@@ -1,5 +1,5 @@
 use Rattle.std.proofs.Common.{[], refl}
-use Rattle.script_commands.proofs.Acts.{Does-given}
+use Rattle.script_lines.proofs.Acts.{Does-given}
 use Rattle.script_commands.proofs.handlers.keep.Goals as goal
 
 pub returns : goal.returns

@@ -1,9 +1,9 @@
 use Rattle.std.proofs.Common.{◌≡◌, ◌∙◌, None}
 use Rattle.d64_dos.specs.Reading.{read_refusal}
-use Rattle.script_commands.specs.FoundFile.{found_content}
-use Rattle.d64_undo.specs.History.{present_image}
-use Rattle.script_commands.proofs.Acts.{Does-refuse_by, Does-not_allowed}
-use Rattle.script_commands.proofs.FoundFiles.{found_content-read}
+use Rattle.script_lines.specs.FoundFile.{found_content}
+use Rattle.d64_history.specs.History.{present_image}
+use Rattle.script_lines.proofs.Acts.{Does-refuse_by, Does-not_allowed}
+use Rattle.script_lines.proofs.FoundFiles.{found_content-read}
 use Rattle.script_commands.proofs.handlers.read_to.Goals as goal
 
 pub returns-in-Ok : goal.returns-in-Ok

@@ -1,13 +1,13 @@
 use Rattle.std.proofs.Common.{◌≡◌, ◌∙◌, ℕ, List, [], None, Ok, false, refl, sym, ap, subst, rules}
 use Rattle.d64_dos.specs.Reading.{read_refusal}
 use Rattle.script_text.specs.declared.status.Status.TheVariants.{Done}
-use Rattle.script_commands.specs.Act.{Room, Does, LineResponse, World}
-use Rattle.script_commands.specs.FileText.{typed_text}
-use Rattle.script_commands.specs.FoundFile.{found_content}
-use Rattle.script_commands.specs.Line.{show, show_file}
-use Rattle.d64_undo.specs.History.{present_image}
-use Rattle.script_commands.proofs.Acts.{Does-given, Does-refuse_by}
-use Rattle.script_commands.proofs.FoundFiles.{found_content-read}
+use Rattle.script_lines.specs.Act.{Room, Does, LineResponse, World}
+use Rattle.script_lines.specs.FileText.{typed_text}
+use Rattle.script_lines.specs.FoundFile.{found_content}
+use Rattle.script_lines.specs.Line.{show, show_file}
+use Rattle.d64_history.specs.History.{present_image}
+use Rattle.script_lines.proofs.Acts.{Does-given, Does-refuse_by}
+use Rattle.script_lines.proofs.FoundFiles.{found_content-read}
 use Rattle.script_commands.proofs.handlers.show_file.Goals as goal
 
 pub returns : goal.returns

@@ -1,6 +1,6 @@
 use Rattle.std.proofs.Common.{◌<◌, arith}
 use Rattle.std.proofs.lemmas.List.Elements.{All-from_get_or}
-use Rattle.script_commands.proofs.AsciiTexts.{spelling-ascii}
+use Rattle.script_lines.proofs.AsciiTexts.{spelling-ascii}
 use Rattle.script_commands.proofs.handlers.spelling_is_ascii.Goals as goal
 
 pub returns : goal.returns

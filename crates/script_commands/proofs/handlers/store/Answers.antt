@@ -1,9 +1,9 @@
 use Rattle.std.proofs.Common.{[], Ok, Err, refl}
-use Rattle.script_commands.specs.Act.{Does, Store, CallGives, World}
-use Rattle.d64_undo.specs.History.{present_image}
-use Rattle.script_commands.specs.Line.{leave}
-use Rattle.script_commands.specs.Response.{shown_response}
-use Rattle.script_commands.proofs.Acts.{Does-given, Does-refused}
+use Rattle.script_lines.specs.Act.{Does, Store, CallGives, World}
+use Rattle.d64_history.specs.History.{present_image}
+use Rattle.script_lines.specs.Line.{leave}
+use Rattle.script_lines.specs.Response.{shown_response}
+use Rattle.script_lines.proofs.Acts.{Does-given, Does-refused}
 use Rattle.script_commands.proofs.handlers.store.Goals as goal
 
 pub returns-in-Ok : goal.returns-in-Ok

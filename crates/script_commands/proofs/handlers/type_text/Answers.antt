@@ -1,4 +1,4 @@
-use Rattle.script_commands.proofs.TextArguments.{Does-read}
+use Rattle.script_lines.proofs.TextArguments.{Does-read}
 use Rattle.script_commands.proofs.handlers.type_text.Goals as goal
 
 pub returns : goal.returns

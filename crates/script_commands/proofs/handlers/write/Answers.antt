@@ -1,6 +1,6 @@
 use Rattle.std.proofs.Common.{Ok, Err, refl}
-use Rattle.script_commands.proofs.Acts.{Does-given, Does-refused}
-use Rattle.script_commands.proofs.TextArguments.{Does-read}
+use Rattle.script_lines.proofs.Acts.{Does-given, Does-refused}
+use Rattle.script_lines.proofs.TextArguments.{Does-read}
 use Rattle.script_commands.proofs.handlers.write.Goals as goal
 
 pub returns-in-Ok : goal.returns-in-Ok

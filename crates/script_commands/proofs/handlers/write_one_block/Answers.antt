@@ -1,6 +1,6 @@
 use Rattle.std.proofs.Common.{rules, ◌≡◌, ℕ, List, length, refl}
-use Rattle.d64_undo.specs.History.{History}
-use Rattle.script_commands.specs.Line.{run, write_one_block}
+use Rattle.d64_history.specs.History.{History}
+use Rattle.script_lines.specs.Line.{run, write_one_block}
 use Rattle.d64_dos.specs.Change.{BlockWrite}
 use Rattle.script_commands.proofs.handlers.write_one_block.Goals as goal
 

@@ -1,6 +1,6 @@
 use Rattle.std.proofs.Common.{refl}
-use Rattle.script_commands.proofs.Acts.{Does-given}
-use Rattle.script_commands.proofs.BasicActs.{Does-uncrunched, fault_line-fits}
+use Rattle.script_lines.proofs.Acts.{Does-given}
+use Rattle.script_lines.proofs.BasicActs.{Does-uncrunched, fault_line-fits}
 use Rattle.script_commands.proofs.handlers.write_program.Goals as goal
 
 pub of_basic_fault-requires : goal.of_basic_fault-requires

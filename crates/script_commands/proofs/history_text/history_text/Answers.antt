@@ -3,7 +3,7 @@ use Rattle.std.specs.List.{flat_map, range_with_len}
 use Rattle.std.proofs.lemmas.Grind.{flat_map-append}
 use Rattle.std.proofs.lemmas.List.{append-nil, map-id}
 use Rattle.std.proofs.lemmas.List.FromFn.{map-range_with_len_more}
-use Rattle.script_commands.specs.HistoryText.{record_line, history_text}
+use Rattle.script_lines.specs.HistoryText.{record_line, history_text}
 use Rattle.script_commands.proofs.history_text.history_text.Goals as goal
 
 -- the lines of the first numbers, and one more

@@ -1,8 +1,8 @@
 use Rattle.std.proofs.Common.{◌≡◌, ◌==◌, of_calls, List, subst}
 use Rattle.std.specs.List.{after_last}
 use Rattle.std.proofs.lemmas.List.Sorted.{answers_always}
-use Rattle.script_commands.specs.Arguments.{after_slash}
-use Rattle.script_commands.proofs.LastParts.{is_after_last}
+use Rattle.script_lines.specs.Arguments.{after_slash}
+use Rattle.script_lines.proofs.LastParts.{is_after_last}
 use Rattle.script_hints.proofs.prompt.last_part.Goals as goal
 
 pub returns-in-Some : goal.returns-in-Some

@@ -1,5 +1,5 @@
-use Rattle.d64_undo.specs.History.{present_image}
-use Rattle.script_commands.specs.Response.{shown_response}
+use Rattle.d64_history.specs.History.{present_image}
+use Rattle.script_lines.specs.Response.{shown_response}
 use Rattle.cmd_shell.specs.Runner.{options_of}
 use Rattle.cmd_shell.proofs.LinesSoFar.{RunsLine-skipped, EndsLine-executed}
 use Rattle.cmd_shell.proofs.runner.LineRunner.run_line.Goals as goal

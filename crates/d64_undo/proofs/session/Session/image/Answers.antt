@@ -1,5 +1,5 @@
 use Rattle.std.proofs.Common.{sym}
-use Rattle.d64_undo.proofs.Sessions.{holds, present_is, lies}
+use Rattle.d64_history.proofs.Sessions.{holds, present_is, lies}
 use Rattle.d64_undo.proofs.session.Session.image.Goals as goal
 
 pub returns-clause-present : goal.returns-clause-present

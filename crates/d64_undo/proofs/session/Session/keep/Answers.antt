@@ -1,7 +1,7 @@
 use Rattle.std.proofs.Common.{◌≡◌, List, ℕ, subst}
 use Rattle.std.specs.Prelude.{IfOk}
-use Rattle.d64_undo.proofs.SessionFiles.{file-held, holds-session}
-use Rattle.d64_undo.proofs.Sessions.{holds}
+use Rattle.d64_history.proofs.SessionFiles.{file-held, holds-session}
+use Rattle.d64_history.proofs.Sessions.{holds}
 use Rattle.d64_undo.proofs.session.Session.keep.Goals as goal
 
 -- what the session holds is what the file of its history says

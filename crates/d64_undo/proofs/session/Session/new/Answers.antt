@@ -1,9 +1,10 @@
 use Rattle.std.proofs.Common.{◌≡◌, List, length, sym, ap, ◌∙◌, subst, arith}
 use Rattle.d64_image.specs.Patch.{Kept}
 use Rattle.d64_image.specs.PatchList.{blocks_before}
-use Rattle.d64_undo.specs.Records.{AreRecords}
+use Rattle.d64_history.specs.Held.{history_of}
+use Rattle.d64_history.specs.Records.{AreRecords}
 use Rattle.d64_undo.specs.SoundHistory.{IsSoundHistory}
-use Rattle.d64_undo.proofs.Sessions.{history_of, history-new_history, none-are_records}
+use Rattle.d64_history.proofs.Sessions.{history-new_history, none-are_records}
 use Rattle.d64_undo.proofs.SoundHistories.{new_history-sound}
 use Rattle.d64_undo.proofs.session.Session.new.Goals as goal
 use Rattle.d64_undo.proofs.session.Session.new.Goals.{After-new}

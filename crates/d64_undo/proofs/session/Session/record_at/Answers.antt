@@ -1,6 +1,6 @@
 use Rattle.std.proofs.Common.{◌≡◌, ◌<◌, ℕ, [], length, get_or, sym, ap, ◌∙◌, arith}
 use Rattle.std.proofs.lemmas.List.{get_or_default}
-use Rattle.d64_undo.proofs.Sessions.{holds, record_found, record_missing}
+use Rattle.d64_history.proofs.Sessions.{holds, record_found, record_missing}
 use Rattle.d64_undo.proofs.session.Session.record_at.Goals as goal
 
 -- the record's blocks are lent

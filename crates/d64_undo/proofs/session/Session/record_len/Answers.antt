@@ -1,5 +1,5 @@
 use Rattle.std.proofs.Common.{◌∙◌}
-use Rattle.d64_undo.proofs.Sessions.{holds, record_lens}
+use Rattle.d64_history.proofs.Sessions.{holds, record_lens}
 use Rattle.d64_undo.proofs.session.Session.record_len.Goals as goal
 
 pub returns : goal.returns

@@ -8,10 +8,10 @@ use Rattle.d64_effects.specs.View.{IsSound}
 use Rattle.d64_image.specs.Patch.{RisesBetween}
 use Rattle.d64_image.specs.PatchList.{blocks_before}
 use Rattle.d64_image.proofs.Patches.{rises-changed_blocks}
-use Rattle.d64_undo.specs.History.{present_image, extended_history}
+use Rattle.d64_history.specs.History.{present_image, extended_history}
 use Rattle.d64_undo.specs.SoundHistory.{IsSoundHistory}
-use Rattle.d64_undo.proofs.Records.{length-added}
-use Rattle.d64_undo.proofs.Sessions.{Holds, holds, holds-extended_history, present_is, lies}
+use Rattle.d64_history.proofs.Records.{length-added}
+use Rattle.d64_history.proofs.Sessions.{Holds, holds, holds-extended_history, present_is, lies}
 use Rattle.d64_undo.proofs.SoundHistories.{present_image-sound, extended_history-sound}
 use Rattle.d64_undo.proofs.session.Session.run.Goals as goal
 use Rattle.d64_undo.proofs.session.Session.run.Goals.{After-self-2-1}

@@ -1,7 +1,7 @@
 use Rattle.std.proofs.Common.{◌≡◌, ◌-◌, ℕ, length, refl, sym, ap, ◌∙◌, subst, inl, arith}
-use Rattle.d64_undo.specs.History.{History, present_image}
+use Rattle.d64_history.specs.History.{History, present_image}
 use Rattle.d64_undo.specs.SoundHistory.{IsSoundHistory}
-use Rattle.d64_undo.proofs.Sessions.{Holds, holds, cursor-is, beside-patch, holds-swapped, kind-swapped, places-swapped}
+use Rattle.d64_history.proofs.Sessions.{Holds, holds, cursor-is, beside-patch, holds-swapped, kind-swapped, places-swapped}
 use Rattle.d64_undo.proofs.SoundHistories.{moved-sound}
 use Rattle.d64_undo.proofs.session.Session.undo.Goals as goal
 use Rattle.d64_undo.proofs.session.Session.undo.Goals.{After-self-1}

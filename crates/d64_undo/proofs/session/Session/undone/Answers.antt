@@ -1,5 +1,5 @@
 use Rattle.std.proofs.Common.{arith}
-use Rattle.d64_undo.proofs.Sessions.{holds, cursor-is, image_count}
+use Rattle.d64_history.proofs.Sessions.{holds, cursor-is, image_count}
 use Rattle.d64_undo.proofs.session.Session.undone.Goals as goal
 
 -- there is one image more than records

@@ -1,0 +1,9 @@
+pub mod History
+pub mod HistoryLaws
+pub mod Records
+pub mod Held
+pub mod SessionFile
+pub mod ResumeFault
+pub mod Resuming
+pub mod FromReader
+pub mod SessionFileLaws

@@ -1,7 +1,0 @@
-use Rattle.std.proofs.Common.{◌≡◌, map, string_bytes, take}
-use Rattle.d64_shell.proofs.asking.lent.Given as goal
-
-abbrev pub invariant-loop-argument : goal.invariant-loop-argument
-invariant-loop-argument l = record {
-  same : map (λ argument. argument.now) l.all.items ≡ map string_bytes (take l.argument-index l.arguments);
-}

@@ -1,0 +1,16 @@
+//! The lines of a script: the commands and the arguments of each, what each asks for, the status of
+//! whatever can refuse it, and the texts that it prints.
+//!
+//! It needs no session: a line is read, and what it asks for is defined over a history.
+#![tactic(auto)]
+
+pub mod arguments;
+pub mod file_text;
+pub mod host_file;
+mod line;
+pub mod listing_text;
+mod response;
+pub mod status_from;
+
+pub use line::Line;
+pub use response::{Output, Response};
