@@ -1,4 +1,3 @@
-pub mod AsciiTexts
 pub mod Arrays
 pub mod Objects
 pub mod HostFields

@@ -1,19 +1,14 @@
 //! The names on a disk, in text form.
-ghost use Rattle.std.specs.Prelude.{◌≡◌, [], ◌∷◌, All, ◌<◌, OnOk};
+ghost use Rattle.std.specs.Prelude.{◌≡◌, [], ◌∷◌, OnOk};
 ghost use Rattle.petscii.specs.Spelling.{spelling};
 ghost use Rattle.out_json_csv.specs.Values.{PrintsMembers};
 ghost use Rattle.out_json_csv.specs.Names.{name_value};
 
 use crate::member::put_text;
 use json::Writer;
-use petscii::push_spelling;
+use petscii::{push_spelling, spelling_is_ascii};
 use std::alloc::AllocError;
 use std::str;
-
-/// The text form of bytes is ASCII.
-fn spelling_is_ascii(bytes: &[u8])
-    ensures { All (λ byte. byte < 128) (spelling bytes.now) }
-{}
 
 /// Replaces the text by a name of the disk in text form.
 pub(crate) fn spell(text: &mut Vec<u8>, name: &[u8]) -> Result<(), AllocError>

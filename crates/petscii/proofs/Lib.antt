@@ -3,3 +3,4 @@ pub mod Tables
 pub mod UnitForms
 pub mod Units
 pub mod Readings
+mod AsciiTexts

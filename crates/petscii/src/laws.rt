@@ -1,6 +1,6 @@
 //! Laws of the text form: empty functions, whose contracts are the laws.
 
-ghost use Rattle.std.specs.Prelude.{◌≡◌, ℕ, List};
+ghost use Rattle.std.specs.Prelude.{◌≡◌, ◌<◌, ℕ, List, All};
 ghost use Rattle.petscii.specs.declared.fault.TextFault.{TextFault};
 ghost use Rattle.petscii.specs.Spelling.{spelling};
 ghost use Rattle.petscii.specs.TextForm.{IsTextOf, HasOneReading};
@@ -22,4 +22,10 @@ pub fn spelling_reads_back(bytes: &[u8])
     ensures read { IsTextOf bytes.now (spelling bytes.now) }
     ensures only { (others : List ℕ) → IsTextOf others (spelling bytes.now) → others ≡ bytes.now }
     ensures no_fault { (fault : TextFault) → ¬ (IsFirstTextFault (spelling bytes.now) fault) }
+{}
+
+/// The text form of bytes is ASCII.
+#[inline]
+pub fn spelling_is_ascii(bytes: &[u8])
+    ensures { All (λ byte. byte < 128) (spelling bytes.now) }
 {}

@@ -15,5 +15,5 @@ mod text;
 mod unit;
 
 pub use fault::TextFault;
-pub use laws::{one_outcome, spelling_reads_back};
+pub use laws::{one_outcome, spelling_is_ascii, spelling_reads_back};
 pub use text::{from_text, push_spelling, to_text};

@@ -1,11 +1,10 @@
 //! The effect of each command: a handler for each.
 #![tactic(auto, unfolding(script_lines::specs::Act::Does))]
 
-ghost use Rattle.std.specs.Prelude.{◌≡◌, ◌<◌, ◌≤◌, All, Some, None, [], map, option_copied, option_map, length};
+ghost use Rattle.std.specs.Prelude.{◌≡◌, ◌<◌, ◌≤◌, Some, None, [], map, option_copied, option_map, length};
 ghost use Rattle.d64_dos.specs.Change.{change_of};
 ghost use Rattle.d64_dos.specs.Command.{IsWithin};
 ghost use Rattle.script_lines.specs.Response.{Responds, RespondsAlone};
-ghost use Rattle.petscii.specs.Spelling.{spelling};
 ghost use Rattle.script_lines.specs.FoundFile.{can_name_file};
 ghost use Rattle.d64_history.specs.History.{History, present_image};
 ghost use Rattle.script_text.specs.declared.status.Status.TheVariants as statuses;
@@ -18,7 +17,7 @@ use d64_files::{Kind, Name, Pattern};
 use d64_image::BlockNo;
 use d64_undo::{NothingToRedo, NothingToUndo, Session};
 use host_storage::Host;
-use petscii::to_text;
+use petscii::{spelling_is_ascii, to_text};
 use script_lines::arguments::{
     at_comma, block_in, host_in, id_in, name_and_kind_in, name_and_kind_of, name_in, name_word,
     pattern_in, patterns_in,
@@ -428,11 +427,6 @@ fn store<H: Host>(alloc: Global, host: &mut H, name: &str, bytes: &[u8]) -> Resu
         Err(fault) => Err(of_fault(fault)),
     }
 }
-
-/// Does nothing: its contract states that the text form of bytes is ASCII.
-fn spelling_is_ascii(bytes: &[u8])
-    ensures { All (λ byte. byte < 128) (spelling bytes.now) }
-{}
 
 /// Whether a text can name a host file: it isn't empty, `.` or `..`, and has no `/`.
 #[tactic(auto, unfolding(script_lines::specs::FoundFile::can_name_file))]

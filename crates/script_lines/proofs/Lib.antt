@@ -3,7 +3,6 @@ pub mod BasicActs
 pub mod TextArguments
 pub mod LastParts
 mod LoneCommands
-pub mod AsciiTexts
 pub mod FoundFiles
 pub mod FileTexts
 pub mod ExecutedLines
