@@ -2,10 +2,10 @@
 ghost use Rattle.std.specs.Prelude.{◌≡◌, ◌++◌, IfOk, OnOk, OnErr, option_copied};
 ghost use Rattle.host_storage.specs.Output.{Writes};
 ghost use Rattle.program_console.specs.Outside.{account_at};
-ghost use Rattle.script_lines.specs.Arguments.{after_slash};
 ghost use Rattle.script_hints.specs.Prompt.{prompt_mark, name_in_prompt, prompt};
 
 use host_storage::{OutputStream, WriteFault, push_shown};
+use script_lines::arguments::after_slash;
 use std::alloc::{AllocError, Global};
 use std::io::Write;
 
@@ -15,20 +15,10 @@ pub(crate) fn prompt_name(alloc: Global, home: Option<&str>) -> Result<Vec<u8>, 
 {
     let mut name = Vec::new(alloc);
     match home {
-        Some(home) => push_shown(&mut name, last_part(home.as_bytes()))?,
+        Some(home) => push_shown(&mut name, after_slash(home.as_bytes()))?,
         None => name.extend_from_slice(b"d64sh")?,
     }
     Ok(name)
-}
-
-/// The part of a host file's name after its last `/`.
-fn last_part(name: &[u8]) -> &[u8]
-    ensures { result.now ≡ after_slash name.now }
-{
-    match name.rsplit(|byte| *byte == b'/').next() {
-        Some(part) => part,
-        None => name,
-    }
 }
 
 /// Writes the prompt.

@@ -1,7 +1,7 @@
 pub mod Acts
 pub mod BasicActs
 pub mod TextArguments
-pub mod LastParts
+mod LastParts
 mod LoneCommands
 pub mod FoundFiles
 pub mod FileTexts

@@ -155,7 +155,7 @@ pub fn name_and_kind_in(word: &[u8]) -> Result<(&[u8], Kind), Status>
 }
 
 /// The part of an argument after its last `/`, or all of it if it has no `/`.
-fn after_slash(word: &[u8]) -> &[u8]
+pub fn after_slash(word: &[u8]) -> &[u8]
     ensures { result.now ≡ after_slash word.now }
 {
     match word.rsplit(|byte| *byte == b'/').next() {
