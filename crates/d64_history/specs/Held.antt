@@ -14,6 +14,7 @@ history_of records image done = record { images = images_of records image done; 
 abbrev pub held_history : HeldHistory → History
 held_history held = history_of held.records held.image held.done
 
--- each record is exactly the difference between two images of the history
+-- at most all records are done, and each is exactly the difference between two images of the
+-- history
 abbrev pub IsHeld : HeldHistory → Type 0
 IsHeld held = (held.done ≤ length held.records) × AreRecords held.records held.image held.done

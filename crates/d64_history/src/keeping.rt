@@ -75,6 +75,7 @@ fn put_start(file: &mut Vec<u8>, image: &Image, done: usize, count: usize) -> Re
 }
 
 /// The session file of a present image and all records, the oldest first, of which `done` are done.
+/// The error is that memory runs out.
 #[tactic(auto, unfolding(crate::specs::SessionFile::file_with))]
 pub fn session_file(
     alloc: Global,
