@@ -53,7 +53,7 @@ fn start<'a, E: Write>(
         .iter()
         .map(|argument| argument.as_str())
         .collect(rt.alloc())?;
-    if rt.stdout().is_terminal() && asks_for_program(rt.alloc(), arguments.as_slice()) {
+    if rt.stdout().is_terminal() && asks_for_program(rt.alloc(), arguments.as_slice())? {
         let _ = OutputStream::new(errors).write(PROGRAM_AT_TERMINAL);
         return Ok(NOT_RUN);
     }

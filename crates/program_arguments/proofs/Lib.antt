@@ -6,3 +6,4 @@ pub mod Helps
 pub mod OneOf
 pub mod Parses
 pub mod Required
+pub mod ProgramJobs

@@ -12,3 +12,4 @@ pub mod Start
 pub mod Subcommands
 pub mod Tracks
 pub mod Values
+pub mod ProgramJobs

@@ -1,9 +1,7 @@
 -- The program's arguments, and the errors that are of them.
-use Rattle.std.specs.Prelude.{ℕ, List, ◌∷◌, None, map, codes, ◌⊎◌, ⊤}
+use Rattle.std.specs.Prelude.{◌⊎◌, ℕ, List, ◌∷◌, map, codes, ⊤}
 use Rattle.host_storage.specs.Shown.{shown_name}
 use Rattle.program_arguments.specs.Requested.{IsFault, IsHelpOrVersion}
-use Rattle.program_arguments.specs.declared.jobs.Job.{Job}
-use Rattle.program_arguments.specs.declared.jobs.Job.TheVariants.{Crunch}
 use Rattle.program_arguments.specs.declared.jobs.JobFault.{JobFault}
 use Rattle.program_arguments.specs.declared.jobs.JobFault.TheVariants.{Words}
 
@@ -19,8 +17,3 @@ shown_arguments arguments = map shown_name arguments
 abbrev pub IsErrorOf : List (List ℕ) → JobFault → Type 0
 IsErrorOf arguments (Words error) = IsHelpOrVersion (Words error) ⊎ IsFault arguments (Words error)
 IsErrorOf arguments fault = ⊤
-
--- the job writes a program to the output
-abbrev pub IsForProgram : Job → Type 0
-IsForProgram (Crunch start file None) = ⊤
-IsForProgram job = ⊥

@@ -1,9 +1,9 @@
 //! The job that arguments ask for, or a fault whose text has them as they are shown.
-ghost use Rattle.std.specs.Prelude.{◌≡◌, List, ℕ, IfErr, IfOk, IfSome, IsTrue, false, map, string_bytes};
-ghost use Rattle.program_console.specs.RequestedJob.{IsErrorOf, IsForProgram, named_arguments, shown_arguments};
+ghost use Rattle.std.specs.Prelude.{◌≡◌, ◌↔◌, List, ℕ, IfErr, IfOk, IfSome, IsTrue, false, map, string_bytes};
+ghost use Rattle.program_console.specs.RequestedJob.{IsErrorOf, named_arguments, shown_arguments};
+ghost use Rattle.program_arguments.specs.ProgramJobs.{AsksForProgram, IsReadAsForProgram};
 ghost use Rattle.host_storage.specs.Shown.{shown_name};
 ghost use Rattle.program_arguments.specs.Requested.{IsFault, IsJob};
-ghost use Rattle.program_arguments.specs.declared.jobs.Job.{Job};
 
 use host_storage::push_shown;
 use program_arguments::{Job, JobFault, job};
@@ -23,22 +23,25 @@ pub fn requested_job(alloc: Global, arguments: &[&str]) -> Result<Job, JobFault>
     }
 }
 
-/// Whether the arguments ask for a program on the output, as `crunch` writes it without `-o`; false
-/// if memory runs out as they are read.
-pub fn asks_for_program(alloc: Global, arguments: &[&str]) -> bool
-    ensures { IsTrue result → (job : Job) × IsJob (named_arguments (map (λ argument. argument.now) arguments.now)) job × IsForProgram job }
+/// Whether the arguments ask for a program on the output, as `crunch` writes it without `-o`; the
+/// error is that memory runs out as they are read.
+pub fn asks_for_program(alloc: Global, arguments: &[&str]) -> Result<bool, AllocError>
+    ensures { IfOk result (λ asks. IsTrue asks ↔ AsksForProgram (named_arguments (map (λ argument. argument.now) arguments.now))) }
 {
-    match named_job(alloc, arguments) {
-        Ok(job) => is_for_program(&job),
-        Err(_) => false,
-    }
+    let read = named_job(alloc, arguments);
+    is_read_as_for_program(&read).ok_or(AllocError)
 }
 
-/// Whether a job is to write a program to the output.
-fn is_for_program(job: &Job) -> bool
-    ensures { IsTrue result → IsForProgram job.now }
+/// Whether arguments were read as a job that is to write a program to the output, or None if memory
+/// ran out.
+fn is_read_as_for_program(read: &Result<Job, JobFault>) -> Option<bool>
+    ensures { IsReadAsForProgram read.now result }
 {
-    matches!(job, Job::Crunch { output: None, .. })
+    match read {
+        Ok(job) => Some(matches!(job, Job::Crunch { output: None, .. })),
+        Err(JobFault::Memory) => None,
+        Err(_) => Some(false),
+    }
 }
 
 /// Does the same as `requested_job`, but the text has the arguments as they were given.
