@@ -1,10 +1,8 @@
 -- what the lines of a script leave of the history
 use Rattle.std.proofs.Common.{◌≡◌, ℕ, ◌<◌, List, [], ◌∷◌, ◌+◌, ◌==◌, length, Bool, true, false, Option, None, Some, Result, Ok, Err, refl, sym, ap, ◌∙◌, subst, ◌⊎◌, inl, inr, arith, if◌then◌else◌}
-use Rattle.std.specs.Prelude.{zero, suc, ◌&&◌, not, All, Contains, IfOk, MatchBool, MatchOption, MatchResult, IfSome, nat_lt, nat_le, ok_or, find, codes}
+use Rattle.std.specs.Prelude.{zero, suc, ◌&&◌, not, All, Contains, IfOk, MatchBool, MatchOption, MatchResult, IfSome, nat_lt, nat_le, ok_or, codes}
 use Rattle.std.specs.List.{list_any}
 use Rattle.std.specs.Option.{option_map_or}
-use Rattle.std.specs.Str.{bytes_eq}
-use Rattle.std.proofs.lemmas.Slice.Eq.{bytes_eq-Decides}
 use Rattle.std.proofs.lemmas.Bool.{eqb-true, eqb-false, or_parts, and_parts}
 use Rattle.std.proofs.lemmas.Bool.Decides.{nat_tests}
 use Rattle.std.proofs.lemmas.List.Elements.{All-nil, All-cons, All-head, All-tail}
@@ -35,9 +33,13 @@ use Rattle.petscii.specs.Spelling.{spelling}
 use Rattle.script_lines.specs.Act.{printed_bytes, Act, Give, Refuse, Then, Call, Text, Fetch, Store, Crunch, Expand, Room, CallGives, bytes_given, Ending, Does, LineResponse, World, ◌>>=◌, value_or_refusal, need, each_text, plain_response}
 use Rattle.host_storage.specs.Files.{HostState}
 use Rattle.script_lines.specs.Arguments.{host_in, block_argument, at_comma, can_be_id, name_and_kind_in, name_and_kind_of}
-use Rattle.script_lines.specs.WordCounts.{no_word, one_word, at_most_one, word_and, some_words}
+use Rattle.script_lines.specs.ArgumentCounts.{no_argument, one_argument, at_most_one, argument_and, some_arguments}
+use Rattle.script_lines.specs.LineCommand.{command_named}
+use Rattle.script_lines.specs.declared.line_command.LineCommand.{LineCommand}
+use Rattle.script_lines.specs.declared.line_command.LineCommand.TheVariants as commands
+use Rattle.script_lines.proofs.LineCommands.{command_named-name}
 use Rattle.script_lines.specs.FoundFile.{found_name, can_name_file}
-use Rattle.script_lines.specs.Line.{refuse_by, leave, run, commands, act_of_words, act_of_line, name_parts, read_to, save_act, undo_act, redo_act}
+use Rattle.script_lines.specs.Line.{refuse_by, leave, run, act_for, act_of_words, act_of_line, name_parts, read_to, save_act, undo_act, redo_act}
 use Rattle.cmd_shell.specs.ScriptLaws.{IsReachedIn, ScriptsAreRuns, IsBlockWrite, ScriptsKeepDisksSound}
 use Rattle.script_commands.specs.declared.observer.Refusals.{Refusals}
 use Rattle.cmd_shell.specs.Transcript.{RunOptions, RunProgress, Line, Transcript, IsSilent, counted_progress}
@@ -177,94 +179,95 @@ save-leads IsOne None history None = tt
 save-leads IsOne (Some home) history None = λ stored known. inl refl
 save-leads IsOne home history (Some host) = after_any IsOne history (value_or_refusal (host_in host)) _ (λ name stored known. inl refl)
 
--- each row of a table that has this word leads
-abbrev EachLeads : (Asked → Type 0) → History → List ℕ → List (List ℕ × Act Ending) → Type 0
-EachLeads IsOne history first [] = Unit {0}
-EachLeads IsOne history first (row ∷ rows) = (first ≡ row.0 → Leads IsOne history row.1) × EachLeads IsOne history first rows
-
--- a row of a table, and those after it
-infixr 4 ◌⨾◌
-abbrev ◌⨾◌ : {A B : Type 0} → A → B → A × B
-row ⨾ rows = (row, rows)
-
 -- each command asks for one request at most: one that keeps disks sound, except for a block write
-commands-lead : (IsOne : Asked → Type 0) (home : Option (List ℕ)) (history : History) (first : List ℕ) (words : List (List ℕ))
-    → ((request : Asked) → KeepsDisksSound request → IsOne request) → (first ≡ codes "bwrite" → (request : Asked) → IsOne request)
-    → EachLeads IsOne history first (commands home history words)
-commands-lead IsOne home history first words keeps writes =
-    (λ list_history. after_any IsOne history (no_word words) _ (λ _ bytes known. inl refl))
-    ⨾ (λ list. after_any IsOne history (no_word words) _
-    (λ _. after_any IsOne history (refuse_by (directory_refusal (present_image history))) _ (λ _ bytes known. inl refl)))
-    ⨾ (λ quit. after_any IsOne history (no_word words) _ (λ _. inl refl))
-    ⨾ (λ redo. after_any IsOne history (no_word words) _ (λ _. redo-leads IsOne history (keeps _ tt)))
-    ⨾ (λ undo. after_any IsOne history (no_word words) _ (λ _. undo-leads IsOne history (keeps _ tt)))
-    ⨾ (λ validate. after_any IsOne history (no_word words) _ (λ _. run-leads IsOne history changes.Validate (keeps _ (refl, tt))))
-    ⨾ (λ block. after_any IsOne history (word_and one_word words) _
-    (λ place. after_any IsOne history (value_or_refusal (block_argument (present_image history) place.0 place.1)) _ (λ at. inl refl)))
-    ⨾ (λ delete. after_any IsOne history (some_words words) _
-    (λ w. after_any IsOne history (each_text is_pattern w) _
-    (λ patterns. run-leads IsOne history (changes.Delete patterns) (keeps _ (refl, tt)))))
-    ⨾ (λ format. after_any IsOne history (one_word words) _
-    (λ w. after_any IsOne history (value_or_refusal (ok_or (at_comma w) _)) _
-    (λ parts name named id known. run-leads IsOne history (changes.Format name id) (keeps _ (refl, (name-made name named, id-made id known))))))
-    ⨾ (λ name. after_any IsOne history (one_word words) _
-    (λ w. name-leads IsOne history w (at_comma w) (λ name id named two. keeps _ (refl, (named, two)))))
-    ⨾ (λ petcat. after_any IsOne history (one_word words) _
-    (λ w pattern known. after_any IsOne history (refuse_by (read_refusal (present_image history) pattern)) _ (λ _ listing given. inl refl)))
-    ⨾ (λ rename. after_any IsOne history (word_and one_word words) _
-    (λ w old named new renamed. run-leads IsOne history (changes.Rename old new) (keeps _ (refl, (name-made old named, name-made new renamed)))))
-    ⨾ (λ type. after_any IsOne history (one_word words) _
-    (λ w pattern known. after_any IsOne history (refuse_by (read_refusal (present_image history) pattern)) _ (λ _ bytes given. inl refl)))
-    ⨾ (λ undelete. after_any IsOne history (one_word words) _
-    (λ w. after_any IsOne history (value_or_refusal (name_and_kind_in w)) _
-    (λ file name named. run-leads IsOne history (changes.Undelete name file.1) (keeps _ (refl, name-made name named)))))
-    ⨾ (λ crunch. after_any IsOne history (word_and at_most_one words) _
+command-leads : (IsOne : Asked → Type 0) (home : Option (List ℕ)) (history : History) (command : LineCommand) (arguments : List (List ℕ))
+    → ((request : Asked) → KeepsDisksSound request → IsOne request) → (command ≡ commands.BlockWrite → (request : Asked) → IsOne request)
+    → Leads IsOne history (act_for home history command arguments)
+command-leads IsOne home history commands.Block arguments keeps writes =
+    after_any IsOne history (argument_and one_argument arguments) _
+    (λ place. after_any IsOne history (value_or_refusal (block_argument (present_image history) place.0 place.1)) _ (λ at. inl refl))
+command-leads IsOne home history commands.BlockRead arguments keeps writes =
+    after_any IsOne history (argument_and (argument_and one_argument) arguments) _
     (λ w. after_any IsOne history (value_or_refusal (host_in w.0)) _
-    (λ source name named text fetched file crunched.
-    run-leads IsOne history (changes.Write name Prg file) (keeps _ (refl, (name-made name named, crunched))))))
-    ⨾ (λ read. after_any IsOne history (word_and at_most_one words) _ (λ w pattern known. read-leads IsOne history pattern w.1))
-    ⨾ (λ write. after_any IsOne history (word_and at_most_one words) _
-    (λ w. after_any IsOne history (value_or_refusal (host_in w.0)) _
-    (λ source. after_any IsOne history (value_or_refusal (name_and_kind_of w.0 w.1)) _
-    (λ file name named bytes fetched.
-    run-leads IsOne history (changes.Write name file.1 bytes) (keeps _ (refl, (name-made name named, fetched)))))))
-    ⨾ (λ bread. after_any IsOne history (word_and (word_and one_word) words) _
-    (λ w. after_any IsOne history (value_or_refusal (host_in w.0)) _
-    (λ name. after_any IsOne history (value_or_refusal (block_argument (present_image history) w.1.0 w.1.1)) _ (λ at stored known. inl refl))))
-    ⨾ (λ bwrite. after_any IsOne history (word_and (word_and one_word) words) _
+    (λ name. after_any IsOne history (value_or_refusal (block_argument (present_image history) w.1.0 w.1.1)) _ (λ at stored known. inl refl)))
+command-leads IsOne home history commands.BlockWrite arguments keeps writes =
+    after_any IsOne history (argument_and (argument_and one_argument) arguments) _
     (λ w. after_any IsOne history (value_or_refusal (host_in w.0)) _
     (λ name. after_any IsOne history (value_or_refusal (block_argument (present_image history) w.1.0 w.1.1)) _
     (λ at bytes known. after_any IsOne history (need (length bytes == 256) _) _
-    (λ _. run-leads IsOne history (changes.BlockWrite at bytes) (writes bwrite _))))))
-    ⨾ (λ keep. after_any IsOne history (one_word words) _
-    (λ w. after_any IsOne history (value_or_refusal (host_in w)) _ (λ name made known stored kept. inl refl)))
-    ⨾ (λ save. after_any IsOne history (at_most_one words) _ (λ w. save-leads IsOne home history w))
-    ⨾ tt
+    (λ _. run-leads IsOne history (changes.BlockWrite at bytes) (writes refl _)))))
+command-leads IsOne home history commands.Crunch arguments keeps writes =
+    after_any IsOne history (argument_and at_most_one arguments) _
+    (λ w. after_any IsOne history (value_or_refusal (host_in w.0)) _
+    (λ source name named text fetched file crunched.
+    run-leads IsOne history (changes.Write name Prg file) (keeps _ (refl, (name-made name named, crunched)))))
+command-leads IsOne home history commands.Delete arguments keeps writes =
+    after_any IsOne history (some_arguments arguments) _
+    (λ w. after_any IsOne history (each_text is_pattern w) _
+    (λ patterns. run-leads IsOne history (changes.Delete patterns) (keeps _ (refl, tt))))
+command-leads IsOne home history commands.Format arguments keeps writes =
+    after_any IsOne history (one_argument arguments) _
+    (λ w. after_any IsOne history (value_or_refusal (ok_or (at_comma w) _)) _
+    (λ parts name named id known. run-leads IsOne history (changes.Format name id) (keeps _ (refl, (name-made name named, id-made id known)))))
+command-leads IsOne home history commands.ListHistory arguments keeps writes =
+    after_any IsOne history (no_argument arguments) _ (λ _ bytes known. inl refl)
+command-leads IsOne home history commands.Keep arguments keeps writes =
+    after_any IsOne history (one_argument arguments) _
+    (λ w. after_any IsOne history (value_or_refusal (host_in w)) _ (λ name made known stored kept. inl refl))
+command-leads IsOne home history commands.ListDirectory arguments keeps writes =
+    after_any IsOne history (no_argument arguments) _
+    (λ _. after_any IsOne history (refuse_by (directory_refusal (present_image history))) _ (λ _ bytes known. inl refl))
+command-leads IsOne home history commands.Name arguments keeps writes =
+    after_any IsOne history (one_argument arguments) _
+    (λ w. name-leads IsOne history w (at_comma w) (λ name id named two. keeps _ (refl, (named, two))))
+command-leads IsOne home history commands.Petcat arguments keeps writes =
+    after_any IsOne history (one_argument arguments) _
+    (λ w pattern known. after_any IsOne history (refuse_by (read_refusal (present_image history) pattern)) _ (λ _ listing given. inl refl))
+command-leads IsOne home history commands.Quit arguments keeps writes = after_any IsOne history (no_argument arguments) _ (λ _. inl refl)
+command-leads IsOne home history commands.Read arguments keeps writes =
+    after_any IsOne history (argument_and at_most_one arguments) _ (λ w pattern known. read-leads IsOne history pattern w.1)
+command-leads IsOne home history commands.Redo arguments keeps writes =
+    after_any IsOne history (no_argument arguments) _ (λ _. redo-leads IsOne history (keeps _ tt))
+command-leads IsOne home history commands.Rename arguments keeps writes =
+    after_any IsOne history (argument_and one_argument arguments) _
+    (λ w old named new renamed. run-leads IsOne history (changes.Rename old new) (keeps _ (refl, (name-made old named, name-made new renamed))))
+command-leads IsOne home history commands.Save arguments keeps writes =
+    after_any IsOne history (at_most_one arguments) _ (λ w. save-leads IsOne home history w)
+command-leads IsOne home history commands.ShowText arguments keeps writes =
+    after_any IsOne history (one_argument arguments) _
+    (λ w pattern known. after_any IsOne history (refuse_by (read_refusal (present_image history) pattern)) _ (λ _ bytes given. inl refl))
+command-leads IsOne home history commands.Undelete arguments keeps writes =
+    after_any IsOne history (one_argument arguments) _
+    (λ w. after_any IsOne history (value_or_refusal (name_and_kind_in w)) _
+    (λ file name named. run-leads IsOne history (changes.Undelete name file.1) (keeps _ (refl, name-made name named))))
+command-leads IsOne home history commands.Undo arguments keeps writes =
+    after_any IsOne history (no_argument arguments) _ (λ _. undo-leads IsOne history (keeps _ tt))
+command-leads IsOne home history commands.Validate arguments keeps writes =
+    after_any IsOne history (no_argument arguments) _ (λ _. run-leads IsOne history changes.Validate (keeps _ (refl, tt)))
+command-leads IsOne home history commands.Write arguments keeps writes =
+    after_any IsOne history (argument_and at_most_one arguments) _
+    (λ w. after_any IsOne history (value_or_refusal (host_in w.0)) _
+    (λ source. after_any IsOne history (value_or_refusal (name_and_kind_of w.0 w.1)) _
+    (λ file name named bytes fetched.
+    run-leads IsOne history (changes.Write name file.1 bytes) (keeps _ (refl, (name-made name named, fetched))))))
 
--- a row that has the word, or what comes of those after it
-row_or : (IsOne : Asked → Type 0) (history : History) (has : Bool) (row : List ℕ × Act Ending) (rest : Option (List ℕ × Act Ending))
-    → (has ≡ true → Leads IsOne history row.1) → Leads IsOne history (option_map_or (λ (r : List ℕ × Act Ending). r.1) rest (Refuse UnknownCommand))
-    → Leads IsOne history (option_map_or (λ (r : List ℕ × Act Ending). r.1) (if has then Some row else rest) (Refuse UnknownCommand))
-row_or IsOne history true row rest here after = here refl
-row_or IsOne history false row rest here after = after
+-- and so does the command that a name finds, if it finds one
+found-leads : (IsOne : Asked → Type 0) (home : Option (List ℕ)) (history : History) (found : Option LineCommand) (arguments : List (List ℕ))
+    → ((request : Asked) → KeepsDisksSound request → IsOne request) → (found ≡ Some commands.BlockWrite → (request : Asked) → IsOne request)
+    → Leads IsOne history (option_map_or (λ command. act_for home history command arguments) found (Refuse UnknownCommand))
+found-leads IsOne home history None arguments keeps writes = tt
+found-leads IsOne home history (Some command) arguments keeps writes =
+    command-leads IsOne home history command arguments keeps (λ is. writes (ap Some is))
 
--- the row that is found leads
-found-leads : (IsOne : Asked → Type 0) (history : History) (first : List ℕ) (rows : List (List ℕ × Act Ending)) → EachLeads IsOne history first rows
-    → Leads IsOne history (option_map_or (λ (r : List ℕ × Act Ending). r.1) (find (λ r. bytes_eq first r.0) rows) (Refuse UnknownCommand))
-found-leads IsOne history first [] each = tt
-found-leads IsOne history first (row ∷ rows) each =
-    row_or IsOne history (bytes_eq first row.0) row (find (λ r. bytes_eq first r.0) rows)
-    (λ has. each.0 ((bytes_eq-Decides first row.0).0 has)) (found-leads IsOne history first rows each.1)
-
--- and so does each word of a line
+-- and so does each line
 words-lead : (IsOne : Asked → Type 0) (home : Option (List ℕ)) (history : History) (words : List (List ℕ))
     → ((request : Asked) → KeepsDisksSound request → IsOne request)
     → ((more : List (List ℕ)) → words ≡ codes "bwrite" ∷ more → (request : Asked) → IsOne request)
     → Leads IsOne history (act_of_words home history words)
 words-lead IsOne home history [] keeps writes = tt
-words-lead IsOne home history (first ∷ words) keeps writes =
-    found-leads IsOne history first (commands home history words)
-    (commands-lead IsOne home history first words keeps (λ is. writes words (ap (λ (word : List ℕ). word ∷ words) is)))
+words-lead IsOne home history (name ∷ arguments) keeps writes =
+    found-leads IsOne home history (command_named name) arguments keeps
+    (λ is. writes arguments (ap (λ (name : List ℕ). name ∷ arguments) (command_named-name name commands.BlockWrite is)))
 
 -- a line that is too long, one that is skipped, or one that asks for an act
 one_of : (IsOne : Asked → Type 0) (history : History) (long skipped : Bool) (act : Act Ending) → Leads IsOne history act

@@ -352,7 +352,7 @@ pub(crate) fn save<H: Host>(
 {
     let name = match name {
         Some(word) => host_in(word)?,
-        None => home.ok_or(Status::MissingWord)?,
+        None => home.ok_or(Status::MissingArgument)?,
     };
     store(alloc, host, name, session.image().bytes())
 }

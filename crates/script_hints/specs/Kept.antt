@@ -5,10 +5,10 @@ use Rattle.std.specs.Str.{bytes_eq}
 use Rattle.sha2.specs.Sha256.{sha256}
 use Rattle.d64_image.specs.Disk.{Bytes, Disk}
 use Rattle.d64_image.specs.Image.{bytes_of}
-use Rattle.script_hints.specs.Said.{Said}
-use Rattle.script_hints.specs.Command.{command_of}
-use Rattle.script_hints.specs.declared.command.LineCommand.{LineCommand}
-use Rattle.script_hints.specs.declared.command.LineCommand.TheVariants.{BlockRead, Keep, Read, Save}
+use Rattle.script_hints.specs.LineParts.{LineParts}
+use Rattle.script_lines.specs.LineCommand.{command_named}
+use Rattle.script_lines.specs.declared.line_command.LineCommand.{LineCommand}
+use Rattle.script_lines.specs.declared.line_command.LineCommand.TheVariants.{BlockRead, Keep, Read, Save}
 use Rattle.script_hints.specs.declared.kept.Kept.{Kept}
 
 -- the effect of an accepted line on the files that may have the image: it stores the image in one,
@@ -41,16 +41,16 @@ is_unsaved (Some kept) image = not (bytes_eq kept.image (sha256 (bytes_of image)
 
 -- the effect of an accepted line of a command, by the names under which `save` and `read` store by
 -- default
-abbrev pub effect_by : Option Bytes → Bytes → Said → LineCommand → Effect
-effect_by home found said Save = Holds (if length said.first == 0 then home else Some said.first)
-effect_by home found said Keep = Holds (Some said.first)
-effect_by home found said Read = Replaces (if length said.second == 0 then found else said.second)
-effect_by home found said BlockRead = Replaces said.first
-effect_by home found said command = Nothing
+abbrev pub effect_by : Option Bytes → Bytes → LineParts → Option LineCommand → Effect
+effect_by home found parts (Some Save) = Holds (if length parts.first == 0 then home else Some parts.first)
+effect_by home found parts (Some Keep) = Holds (Some parts.first)
+effect_by home found parts (Some Read) = Replaces (if length parts.second == 0 then found else parts.second)
+effect_by home found parts (Some BlockRead) = Replaces parts.first
+effect_by home found parts command = Nothing
 
 -- the effect of an accepted line with these arguments
-abbrev pub effect_of : Option Bytes → Bytes → Said → Effect
-effect_of home found said = effect_by home found said (command_of said.word)
+abbrev pub effect_of : Option Bytes → Bytes → LineParts → Effect
+effect_of home found parts = effect_by home found parts (command_named parts.command)
 
 -- the line that says that changes are not saved
 abbrev pub unsaved_line : Bytes

@@ -1,5 +1,4 @@
-pub mod Said
-pub mod Command
+pub mod LineParts
 pub mod Hint
 pub mod Faults
 pub mod Advice

@@ -13,9 +13,9 @@ use Rattle.script_lines.specs.BasicFiles.{program_start}
 use Rattle.script_lines.specs.Line.{host_file_limit}
 use Rattle.script_text.specs.declared.status.Status.{Status}
 use Rattle.script_text.specs.declared.status.Status.TheVariants.{BasicText}
-use Rattle.script_hints.specs.Advice.{advice, advice_words}
+use Rattle.script_hints.specs.Advice.{advice, advice_text}
 use Rattle.script_hints.specs.Lost.{IsLostLine}
-use Rattle.script_hints.specs.Said.{Said}
+use Rattle.script_hints.specs.LineParts.{LineParts}
 
 -- whether a faulty line has a fault with this number, and is the line with this number
 abbrev pub is_fault : FaultyLine → ℕ → ℕ → Bool
@@ -49,5 +49,5 @@ IsCauseLine host start name status line = IsFoundLine host start name status lin
 
 -- what may be said, after a start, of a line with this command and these arguments that was refused
 -- with a status: what is found to be wrong with its text or its deleted file, or the advice
-abbrev pub MaySay : HostState → Bytes → Said → Status → Bytes → Type 0
-MaySay host start said status line = IsCauseLine host start said.first status line ⊎ (line ≡ start ++ advice_words said (advice said status))
+abbrev pub MaySay : HostState → Bytes → LineParts → Status → Bytes → Type 0
+MaySay host start parts status line = IsCauseLine host start parts.first status line ⊎ (line ≡ start ++ advice_text parts (advice parts status))

@@ -1,11 +1,11 @@
 //! What is wrong with a refused line, in plain words.
 ghost use Rattle.std.specs.Prelude.{◌≡◌};
-ghost use Rattle.script_hints.specs.Advice.{advice, file_piece, host_piece, missing_file, missing_word, not_number, one_piece, piece_of, pieces, plain_pieces, said_piece, surplus_piece, two_pieces, wrong_block, wrong_host_file, wrong_line, wrong_name, wrong_words};
+ghost use Rattle.script_hints.specs.Advice.{advice, file_piece, host_piece, missing_argument, missing_file, most_of, not_number, one_piece, piece_of, pieces, plain_pieces, piece_bytes, surplus_piece, two_pieces, usage_of, wrong_block, wrong_host_file, wrong_line, wrong_name, wrong_arguments};
 
-use crate::command::LineCommand;
 use crate::faults::{basic_fault, condition_text, list_fault};
 use crate::hint::Hint;
-use crate::said::Said;
+use crate::line_parts::LineParts;
+use script_lines::LineCommand;
 use script_text::number::number;
 use script_text::status::Status;
 
@@ -13,7 +13,7 @@ use script_text::status::Status;
 #[derive(Clone, Copy)]
 pub(crate) enum Piece {
     Text(&'static [u8]),
-    Word,
+    Command,
     First,
     Second,
     Third,
@@ -22,16 +22,16 @@ pub(crate) enum Piece {
 
 impl Piece {
     /// The piece's bytes, by the arguments of the line.
-    pub(crate) fn of<'a>(self, said: &Said<'a>) -> &'a [u8]
-        ensures { result.now ≡ said_piece said.now (piece_of self) }
+    pub(crate) fn of<'a>(self, parts: &LineParts<'a>) -> &'a [u8]
+        ensures { result.now ≡ piece_bytes parts.now (piece_of self) }
     {
         match self {
             Piece::Text(text) => text,
-            Piece::Word => said.word.as_bytes(),
-            Piece::First => said.first,
-            Piece::Second => said.second,
-            Piece::Third => said.third,
-            Piece::Fourth => said.fourth,
+            Piece::Command => parts.command.as_bytes(),
+            Piece::First => parts.first,
+            Piece::Second => parts.second,
+            Piece::Third => parts.third,
+            Piece::Fourth => parts.fourth,
         }
     }
 }
@@ -79,22 +79,22 @@ impl Advice {
     }
 
     /// The advice about a line with these arguments that was refused with this status.
-    pub(crate) fn of(said: &Said<'_>, status: &Status) -> Advice
-        ensures { pieces result ≡ advice said.now status.now }
+    pub(crate) fn of(parts: &LineParts<'_>, status: &Status) -> Advice
+        ensures { pieces result ≡ advice parts.now status.now }
     {
-        let command = LineCommand::of(said.word);
+        let command = LineCommand::named(parts.command);
         match *status {
-            Status::SyntaxError => wrong_words(said, command),
+            Status::SyntaxError => wrong_arguments(parts, command),
             Status::UnknownCommand => Advice::two(
                 b"there is no command \"",
-                Piece::Word,
+                Piece::Command,
                 b"\"",
-                Piece::Text(Hint::of(said.word).text()),
+                Piece::Text(Hint::of(parts.command).text()),
                 b"",
             ),
             Status::LongLine => Advice::plain(b"a line has at most 1024 characters"),
-            Status::BadName => wrong_name(said, command),
-            Status::MissingWord => missing_word(said, command),
+            Status::BadName => wrong_name(parts, command),
+            Status::MissingArgument => missing_argument(parts, command),
             Status::WriteFileOpen => Advice::one(
                 b"the file \"",
                 Piece::First,
@@ -103,15 +103,15 @@ impl Advice {
             Status::FileNotFound => missing_file(command),
             Status::FileExists => Advice::one(
                 b"the disk already has a file named \"",
-                file_piece(said, command),
+                file_piece(parts, command),
                 b"\"",
             ),
             Status::FileTypeMismatch => Advice::one(
                 b"the file \"",
-                file_piece(said, command),
+                file_piece(parts, command),
                 b"\" has the wrong type for this command",
             ),
-            Status::IllegalBlock { .. } => wrong_block(said, command),
+            Status::IllegalBlock { .. } => wrong_block(parts, command),
             Status::DirectoryError { condition } => Advice::one(
                 b"the disk is damaged: ",
                 Piece::Text(condition_text(condition)),
@@ -120,7 +120,7 @@ impl Advice {
             Status::DiskFull => Advice::plain(
                 b"there is not enough space on the disk or in its directory",
             ),
-            Status::HostFile { fault } => wrong_host_file(said, command, fault),
+            Status::HostFile { fault } => wrong_host_file(parts, command, fault),
             Status::NothingToUndo => Advice::plain(b"there is nothing to undo"),
             Status::NothingToRedo => Advice::plain(b"there is nothing to redo"),
             Status::NotOneBlock => Advice::one(
@@ -153,12 +153,32 @@ impl Advice {
     }
 }
 
+/// How the line of a command is typed; without one, where the commands are listed.
+fn usage_of(command: Option<LineCommand>) -> &'static [u8]
+    ensures { result.now ≡ usage_of command }
+{
+    match command {
+        Some(command) => command.usage().as_bytes(),
+        None => b"d64sh help shell lists the commands",
+    }
+}
+
+/// The most arguments that a command takes, if there is one.
+fn most_of(command: Option<LineCommand>) -> usize
+    ensures { result ≡ most_of command }
+{
+    match command {
+        Some(command) => command.most_arguments(),
+        None => 0,
+    }
+}
+
 /// A line whose file isn't there.
-fn missing_file(command: LineCommand) -> Advice
+fn missing_file(command: Option<LineCommand>) -> Advice
     ensures { pieces result ≡ missing_file command }
 {
     match command {
-        LineCommand::Undelete => Advice::one(
+        Some(LineCommand::Undelete) => Advice::one(
             b"the disk has no deleted file \"",
             Piece::First,
             b"\"",
@@ -168,13 +188,13 @@ fn missing_file(command: LineCommand) -> Advice
 }
 
 /// The argument of a line that is the name of a file on the disk.
-fn file_piece(said: &Said<'_>, command: LineCommand) -> Piece
-    ensures { piece_of result ≡ file_piece said.now command }
+fn file_piece(parts: &LineParts<'_>, command: Option<LineCommand>) -> Piece
+    ensures { piece_of result ≡ file_piece parts.now command }
 {
     match command {
-        LineCommand::Rename => Piece::Second,
-        LineCommand::Crunch | LineCommand::Write => {
-            if said.count > 2 {
+        Some(LineCommand::Rename) => Piece::Second,
+        Some(LineCommand::Crunch) | Some(LineCommand::Write) => {
+            if parts.count > 2 {
                 Piece::Second
             } else {
                 Piece::First
@@ -185,12 +205,12 @@ fn file_piece(said: &Said<'_>, command: LineCommand) -> Piece
 }
 
 /// The argument of a line that is the name of a file of the host.
-fn host_piece(said: &Said<'_>, command: LineCommand) -> Piece
-    ensures { piece_of result ≡ host_piece said.now command }
+fn host_piece(parts: &LineParts<'_>, command: Option<LineCommand>) -> Piece
+    ensures { piece_of result ≡ host_piece parts.now command }
 {
     match command {
-        LineCommand::Read => {
-            if said.count > 2 {
+        Some(LineCommand::Read) => {
+            if parts.count > 2 {
                 Piece::Second
             } else {
                 Piece::First
@@ -223,35 +243,35 @@ fn not_number(track: &[u8], first: Piece, second: Piece) -> Piece
 }
 
 /// A line whose arguments are not what its command takes.
-fn wrong_words(said: &Said<'_>, command: LineCommand) -> Advice
-    ensures { pieces result ≡ wrong_words said.now command }
+fn wrong_arguments(parts: &LineParts<'_>, command: Option<LineCommand>) -> Advice
+    ensures { pieces result ≡ wrong_arguments parts.now command }
 {
-    let most = command.most_words();
-    if said.count == 0 {
+    let most = most_of(command);
+    if parts.count == 0 {
         Advice::plain(
             b"quotes may only enclose a whole argument, and only printable ASCII is allowed",
         )
-    } else if said.count - 1 > most {
+    } else if parts.count - 1 > most {
         Advice::two(
             b"\"",
             surplus_piece(most),
             b"\" is one argument too many: ",
-            Piece::Text(command.usage()),
+            Piece::Text(usage_of(command)),
             b"",
         )
     } else {
-        wrong_line(said, command)
+        wrong_line(parts, command)
     }
 }
 
 /// A line whose host file has this fault.
-fn wrong_host_file(said: &Said<'_>, command: LineCommand, fault: u8) -> Advice
-    ensures { pieces result ≡ wrong_host_file said.now command fault }
+fn wrong_host_file(parts: &LineParts<'_>, command: Option<LineCommand>, fault: u8) -> Advice
+    ensures { pieces result ≡ wrong_host_file parts.now command fault }
 {
-    if said.count == 1 {
+    if parts.count == 1 {
         return Advice::plain(b"the image file cannot be written");
     }
-    let piece = host_piece(said, command);
+    let piece = host_piece(parts, command);
     match fault {
         1 => Advice::one(b"the host has no file \"", piece, b"\""),
         3 => Advice::one(b"the file \"", piece, b"\" has more than 1048576 bytes"),
@@ -260,96 +280,98 @@ fn wrong_host_file(said: &Said<'_>, command: LineCommand, fault: u8) -> Advice
 }
 
 /// A line with the right number of arguments, one of which its command does not take.
-fn wrong_line(said: &Said<'_>, command: LineCommand) -> Advice
-    ensures { pieces result ≡ wrong_line said.now command }
+fn wrong_line(parts: &LineParts<'_>, command: Option<LineCommand>) -> Advice
+    ensures { pieces result ≡ wrong_line parts.now command }
 {
     match command {
-        LineCommand::Block => Advice::one(
+        Some(LineCommand::Block) => Advice::one(
             b"\"",
-            not_number(said.first, Piece::First, Piece::Second),
+            not_number(parts.first, Piece::First, Piece::Second),
             b"\" is not a number from 0 to 255: block T S",
         ),
-        LineCommand::BlockRead | LineCommand::BlockWrite => Advice::one(
+        Some(LineCommand::BlockRead) | Some(LineCommand::BlockWrite) => Advice::one(
             b"\"",
-            not_number(said.second, Piece::Second, Piece::Third),
+            not_number(parts.second, Piece::Second, Piece::Third),
             b"\" is not a number from 0 to 255",
         ),
-        LineCommand::Format => Advice::one(
+        Some(LineCommand::Format) => Advice::one(
             b"\"",
             Piece::First,
             b"\" has no comma between name and id: format NAME,ID",
         ),
-        LineCommand::Write => Advice::one(
+        Some(LineCommand::Write) => Advice::one(
             b"\"",
             Piece::Second,
             b"\" does not end with a file type (p, s or u): write HOST NAME,T",
         ),
-        LineCommand::Undelete => Advice::one(
+        Some(LineCommand::Undelete) => Advice::one(
             b"\"",
             Piece::First,
             b"\" does not end with a file type (p, s or u): undelete NAME,T",
         ),
         _ => Advice::one(
             b"type the line like this: ",
-            Piece::Text(command.usage()),
+            Piece::Text(usage_of(command)),
             b"",
         ),
     }
 }
 
 /// A line in which an argument cannot be a name.
-fn wrong_name(said: &Said<'_>, command: LineCommand) -> Advice
-    ensures { pieces result ≡ wrong_name said.now command }
+fn wrong_name(parts: &LineParts<'_>, command: Option<LineCommand>) -> Advice
+    ensures { pieces result ≡ wrong_name parts.now command }
 {
     match command {
-        LineCommand::BlockRead | LineCommand::BlockWrite | LineCommand::Keep | LineCommand::Save =>
-            Advice::one(
-                b"\"",
-                Piece::First,
-                b"\" is not a valid name of a host file, which has 1 to 255 characters",
-            ),
-        LineCommand::Format => Advice::one(
+        Some(LineCommand::BlockRead)
+        | Some(LineCommand::BlockWrite)
+        | Some(LineCommand::Keep)
+        | Some(LineCommand::Save) => Advice::one(
+            b"\"",
+            Piece::First,
+            b"\" is not a valid name of a host file, which has 1 to 255 characters",
+        ),
+        Some(LineCommand::Format) => Advice::one(
             b"\"",
             Piece::First,
             b"\" is not a valid name of 1 to 16 characters and an id of 2, without * ? = : and quotes",
         ),
-        LineCommand::Name => Advice::one(
+        Some(LineCommand::Name) => Advice::one(
             b"\"",
             Piece::First,
             b"\" is not a valid name of 1 to 16 characters, alone or with an id of 2 after a comma, without * ? = : and quotes",
         ),
-        LineCommand::Petcat | LineCommand::ShowText => Advice::one(
+        Some(LineCommand::Petcat) | Some(LineCommand::ShowText) => Advice::one(
             b"\"",
             Piece::First,
             b"\" is not a valid name, which has 1 to 16 characters without = : , and quotes",
         ),
-        LineCommand::Delete => Advice::one(
+        Some(LineCommand::Delete) => Advice::one(
             b"one of the names from \"",
             Piece::First,
             b"\" on is not valid: a name has 1 to 16 characters without = : , and quotes",
         ),
-        LineCommand::Read => Advice::two(
+        Some(LineCommand::Read) => Advice::two(
             b"\"",
             Piece::First,
             b"\" is not a valid name on a disk, which has 1 to 16 characters without = : , and quotes, or the host cannot have a file \"",
-            host_piece(said, command),
+            host_piece(parts, command),
             b"\": read NAME HOST",
         ),
-        LineCommand::Rename => Advice::two(
+        Some(LineCommand::Rename) => Advice::two(
             b"\"",
             Piece::First,
             b"\" or \"",
             Piece::Second,
             b"\" is not a valid name on a disk, which has 1 to 16 characters without * ? = : , and quotes",
         ),
-        LineCommand::Undelete => Advice::one(
+        Some(LineCommand::Undelete) => Advice::one(
             b"\"",
             Piece::First,
             b"\" does not give a valid name on a disk, which has 1 to 16 characters without * ? = : , and quotes",
         ),
         _ => Advice::two(
             b"\"",
-            file_piece(said, command),
+            file_piece(parts, command),
             b"\" does not give a valid name on a disk, which has 1 to 16 characters without * ? = : , and quotes, or the host cannot have a file \"",
             Piece::First,
             b"\"",
@@ -358,27 +380,27 @@ fn wrong_name(said: &Said<'_>, command: LineCommand) -> Advice
 }
 
 /// A line in which an argument is missing.
-fn missing_word(said: &Said<'_>, command: LineCommand) -> Advice
-    ensures { pieces result ≡ missing_word said.now command }
+fn missing_argument(parts: &LineParts<'_>, command: Option<LineCommand>) -> Advice
+    ensures { pieces result ≡ missing_argument parts.now command }
 {
     match command {
-        LineCommand::Save => Advice::plain(
+        Some(LineCommand::Save) => Advice::plain(
             b"the session began without an image file, so save takes a name: save HOST",
         ),
         _ => Advice::one(
             b"an argument is missing: ",
-            Piece::Text(command.usage()),
+            Piece::Text(usage_of(command)),
             b"",
         ),
     }
 }
 
 /// A line that names a block that the disk doesn't have.
-fn wrong_block(said: &Said<'_>, command: LineCommand) -> Advice
-    ensures { pieces result ≡ wrong_block said.now command }
+fn wrong_block(parts: &LineParts<'_>, command: Option<LineCommand>) -> Advice
+    ensures { pieces result ≡ wrong_block parts.now command }
 {
     match command {
-        LineCommand::Block => Advice::two(
+        Some(LineCommand::Block) => Advice::two(
             b"the disk has no track ",
             Piece::First,
             b" with a sector ",

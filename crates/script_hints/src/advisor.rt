@@ -8,29 +8,28 @@ ghost use Rattle.host_storage.specs.Output.{Writes};
 ghost use Rattle.program_console.specs.Outside.{account_at};
 ghost use Rattle.script_text.specs.Status.{is_accepted};
 ghost use Rattle.d64_history.specs.History.{present_image};
-ghost use Rattle.script_hints.specs.Advice.{advice, advice_words, pieces};
+ghost use Rattle.script_hints.specs.Advice.{advice, advice_text, pieces};
 ghost use Rattle.std.specs.Option.{option_map_or};
 ghost use Rattle.script_hints.specs.LineStart.{line_start};
 ghost use Rattle.script_hints.specs.Ear.{MayStart, shown_raw_text, stops_at_refusal};
 ghost use Rattle.script_hints.specs.Kept.{effect_of, is_unsaved, kept_after, kept_in, unsaved_line};
 ghost use Rattle.script_hints.specs.Leaving.{IsKeptUnder};
 ghost use Rattle.script_hints.specs.Prompt.{name_in_prompt, prompt};
-ghost use Rattle.script_hints.specs.Said.{said_by};
+ghost use Rattle.script_hints.specs.LineParts.{parts_of_line};
 ghost use Rattle.script_hints.specs.TextCause.{IsCauseLine, MaySay};
 
 use crate::advice::Advice;
-use crate::command::LineCommand;
 use crate::found::{default_name, file_count};
 use crate::help::ROWS;
 use crate::hint::Hint;
 use crate::kept::{Kept, is_unsaved, kept_after};
 use crate::leaving::keep_session;
+use crate::line_parts::LineParts;
 use crate::line_start::line_start;
 use crate::lost::lost_line;
 use crate::more::more_about;
 use crate::past::Past;
 use crate::prompt::{prompt_name, write_prompt};
-use crate::said::Said;
 use crate::text_cause::text_line;
 use crate::unfit::unfit_line;
 use arrayvec::ArrayVec;
@@ -38,6 +37,7 @@ use d64_image::Image;
 use d64_undo::Session;
 use host_storage::{Host, HostFault, OutputStream, WriteFault};
 use script_commands::{Observer, Opening, Refusals};
+use script_lines::LineCommand;
 use script_text::held_line::HeldLine;
 use script_text::raw_lines::LINE_BYTES;
 use script_text::status::Status;
@@ -167,27 +167,34 @@ impl<'w, W: Write, H: Host> Advisor<'w, W, H> {
         ensures typed { self.new.is_typed ≡ self.old.is_typed }
         ensures numbered { self.new.is_numbered ≡ self.old.is_numbered }
         ensures lines { self.new.lines ≡ self.old.lines }
-        ensures kept { (raw : List ℕ) → HoldsText line.now raw → self.old.is_typed ≡ true → is_accepted status.now ≡ true → (found : List ℕ) × (self.new.kept ≡ kept_after self.old.kept (effect_of (option_copied home.entry) found (said_by raw)) image.now) }
+        ensures kept { (raw : List ℕ) → HoldsText line.now raw → self.old.is_typed ≡ true → is_accepted status.now ≡ true → (found : List ℕ) × (self.new.kept ≡ kept_after self.old.kept (effect_of (option_copied home.entry) found (parts_of_line raw)) image.now) }
         ensures held { is_accepted status.now ≡ false → self.new.kept ≡ self.old.kept }
         ensures advised { (raw : List ℕ) → HoldsText line.now raw → is_accepted status.now ≡ false → (start words : List ℕ)
             × MayStart self.old.is_numbered self.old.lines (shown_raw_text raw self.old.first_bytes.items) start
-            × MaySay (H.state self.old.host) start (said_by raw) status.now words
+            × MaySay (H.state self.old.host) start (parts_of_line raw) status.now words
             × Writes (account_at W.contents self.old.output) (account_at W.contents self.new.output) words }
         ensures silent { is_accepted status.now ≡ true → self.new.output ≡ self.old.output }
     {
-        let said = Said::of(line);
+        let parts = LineParts::of(line);
         if status.is_accepted() {
             if self.is_typed {
-                let found = default_name(self.alloc, image, said.first);
-                self.kept = kept_after(self.kept, home, bytes_of(&found, b""), &said, image);
+                let found = default_name(self.alloc, image, parts.first);
+                self.kept = kept_after(self.kept, home, bytes_of(&found, b""), &parts, image);
             }
         } else {
-            let advice = Advice::of(&said, status);
+            let advice = Advice::of(&parts, status);
             let start = self.start_of(line);
             let start = bytes_of(&start, b"d64sh: ");
-            let _ = match cause_line(self.alloc, &mut self.host, start, said.first, status, image) {
+            let _ = match cause_line(
+                self.alloc,
+                &mut self.host,
+                start,
+                parts.first,
+                status,
+                image,
+            ) {
                 Some(line) => self.output.write(line.as_slice()),
-                None => write_advice(&mut self.output, start, &said, advice),
+                None => write_advice(&mut self.output, start, &parts, advice),
             };
         }
     }
@@ -244,10 +251,10 @@ impl<'w, W: Write, H: Host> Advisor<'w, W, H> {
         let before = self.done;
         self.done = session.done();
         let mut past = mem::replace(&mut self.past, Past::new(self.alloc));
-        match LineCommand::of(Said::of(line).word) {
-            LineCommand::Undo => self.name_change(b"  taken back: ", past.line_of(self.done)),
-            LineCommand::Redo => self.name_change(b"  done again: ", past.line_of(before)),
-            LineCommand::Quit => self.is_left = true,
+        match LineCommand::named(LineParts::of(line).command) {
+            Some(LineCommand::Undo) => self.name_change(b"  taken back: ", past.line_of(self.done)),
+            Some(LineCommand::Redo) => self.name_change(b"  done again: ", past.line_of(before)),
+            Some(LineCommand::Quit) => self.is_left = true,
             _ if self.done > before => past.record(before, line.text().unwrap_or(b"")),
             _ => {}
         }
@@ -271,8 +278,8 @@ impl<'w, W: Write, H: Host> Advisor<'w, W, H> {
             return;
         }
         let text = line.text().unwrap_or(b"");
-        let said = Said::of(line);
-        let more = more_about(self.alloc, text, &said, status, image, self.files);
+        let parts = LineParts::of(line);
+        let more = more_about(self.alloc, text, &parts, status, image, self.files);
         let _ = self.output.write(bytes_of(&more, b""));
         self.files = file_count(image);
     }
@@ -309,7 +316,7 @@ fn cause_line<H: Host>(
 /// Whether a line asks which commands there are.
 fn asks_for_help(line: &HeldLine, status: &Status) -> bool {
     match *status {
-        Status::UnknownCommand => matches!(Hint::of(Said::of(line).word), Hint::Help),
+        Status::UnknownCommand => matches!(Hint::of(LineParts::of(line).command), Hint::Help),
         _ => false,
     }
 }
@@ -384,15 +391,15 @@ impl<'w, W: Write, H: Host> Observer for Advisor<'w, W, H> {
 fn write_advice<W: Write>(
     output: &mut OutputStream<'_, W>,
     start: &[u8],
-    said: &Said<'_>,
+    parts: &LineParts<'_>,
     advice: Advice,
 ) -> Result<(), WriteFault>
     ensures same { output.new.writer.ghost_name ≡ output.old.writer.ghost_name }
-    ensures either { Writes (account_at W.contents output.old) (account_at W.contents output.new) (start.now ++ advice_words said.now (pieces advice)) }
+    ensures either { Writes (account_at W.contents output.old) (account_at W.contents output.new) (start.now ++ advice_text parts.now (pieces advice)) }
 {
     output.write(start)?;
     for piece in advice.pieces.iter() {
-        output.write(piece.of(said))?;
+        output.write(piece.of(parts))?;
     }
     output.write(b"\n")
 }

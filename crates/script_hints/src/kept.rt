@@ -3,9 +3,9 @@ ghost use Rattle.std.specs.Prelude.{◌≡◌, option_copied, option_map};
 ghost use Rattle.sha2.specs.Sha256.{sha256};
 ghost use Rattle.script_hints.specs.Kept.{effect_of, is_unsaved, kept_after, kept_in, unless_replaced};
 
-use crate::command::LineCommand;
-use crate::said::Said;
+use crate::line_parts::LineParts;
 use d64_image::Image;
+use script_lines::LineCommand;
 use sha2::{Digest, Sha256};
 
 /// The image that the host has, and the name of its file, each by its digest. A blank image has no
@@ -44,28 +44,28 @@ pub(crate) fn kept_after(
     kept: Option<Kept>,
     home: Option<&str>,
     found: &[u8],
-    said: &Said<'_>,
+    parts: &LineParts<'_>,
     image: &Image,
 ) -> Option<Kept>
-    ensures { result ≡ kept_after kept (effect_of (option_copied home.entry) found.now said.now) image.now }
+    ensures { result ≡ kept_after kept (effect_of (option_copied home.entry) found.now parts.now) image.now }
 {
-    match LineCommand::of(said.word) {
-        LineCommand::Save => {
-            if said.first.is_empty() {
+    match LineCommand::named(parts.command) {
+        Some(LineCommand::Save) => {
+            if parts.first.is_empty() {
                 Some(Kept::of(image, home.map(str::as_bytes)))
             } else {
-                Some(Kept::of(image, Some(said.first)))
+                Some(Kept::of(image, Some(parts.first)))
             }
         }
-        LineCommand::Keep => Some(Kept::of(image, Some(said.first))),
-        LineCommand::Read => {
-            if said.second.is_empty() {
+        Some(LineCommand::Keep) => Some(Kept::of(image, Some(parts.first))),
+        Some(LineCommand::Read) => {
+            if parts.second.is_empty() {
                 unless_replaced(kept, found)
             } else {
-                unless_replaced(kept, said.second)
+                unless_replaced(kept, parts.second)
             }
         }
-        LineCommand::BlockRead => unless_replaced(kept, said.first),
+        Some(LineCommand::BlockRead) => unless_replaced(kept, parts.first),
         _ => kept,
     }
 }

@@ -4,20 +4,19 @@
 
 mod advice;
 mod advisor;
-mod command;
 mod faults;
 mod found;
 mod help;
 mod hint;
 mod kept;
 mod leaving;
+mod line_parts;
 mod line_start;
 mod lost;
 mod more;
 mod near;
 mod past;
 mod prompt;
-mod said;
 mod text_cause;
 mod unfit;
 

@@ -1,14 +1,14 @@
 //! What else there is to say about a line that is typed: which command or name was meant, why
 //! nothing was deleted, what is gone, and the file of the host that may be in the way.
 
-use crate::command::LineCommand;
 use crate::found::{Found, default_name};
 use crate::hint::Hint;
+use crate::line_parts::LineParts;
 use crate::near::near_command;
-use crate::said::Said;
 use d64_files::Entry;
 use d64_image::Image;
 use out_messages::{push_count, push_quoted};
+use script_lines::LineCommand;
 use script_text::status::Status;
 use std::alloc::{AllocError, Global};
 
@@ -17,26 +17,26 @@ use std::alloc::{AllocError, Global};
 pub(crate) fn more_about(
     alloc: Global,
     text: &[u8],
-    said: &Said<'_>,
+    parts: &LineParts<'_>,
     status: &Status,
     image: &Image,
     files: usize,
 ) -> Option<Vec<u8>> {
     let mut line = Vec::new(alloc);
-    let pushed = match (LineCommand::of(said.word), *status) {
-        (_, Status::SyntaxError) if said.count == 0 => push_odd(&mut line, text),
-        (_, Status::UnknownCommand) if matches!(Hint::of(said.word), Hint::Unknown) => {
-            push_near(&mut line, near_command(said.word.as_bytes()))
+    let pushed = match (LineCommand::named(parts.command), *status) {
+        (_, Status::SyntaxError) if parts.count == 0 => push_odd(&mut line, text),
+        (_, Status::UnknownCommand) if matches!(Hint::of(parts.command), Hint::Unknown) => {
+            push_near(&mut line, near_command(parts.command.as_bytes()))
         }
-        (LineCommand::Undelete, Status::FileNotFound) => Ok(()),
-        (_, Status::FileNotFound) => push_missing(&mut line, &Found::of(alloc, image, said.first)),
-        (LineCommand::Delete, Status::FilesScratched { count: 0 }) => {
-            push_undeleted(&mut line, &Found::of(alloc, image, said.first))
+        (Some(LineCommand::Undelete), Status::FileNotFound) => Ok(()),
+        (_, Status::FileNotFound) => push_missing(&mut line, &Found::of(alloc, image, parts.first)),
+        (Some(LineCommand::Delete), Status::FilesScratched { count: 0 }) => {
+            push_undeleted(&mut line, &Found::of(alloc, image, parts.first))
         }
-        (LineCommand::Read, Status::Done) if said.second.is_empty() => {
-            push_place(&mut line, &default_name(alloc, image, said.first))
+        (Some(LineCommand::Read), Status::Done) if parts.second.is_empty() => {
+            push_place(&mut line, &default_name(alloc, image, parts.first))
         }
-        (LineCommand::Format, Status::Done) if files > 0 => push_gone(&mut line, files),
+        (Some(LineCommand::Format), Status::Done) if files > 0 => push_gone(&mut line, files),
         _ => Ok(()),
     };
     match pushed {

@@ -1,38 +1,18 @@
 //! The command whose name is near one that is no command.
 
+use script_lines::LineCommand;
+
 /// The command whose name differs in capital letters alone, or else the first one whose name is
 /// near.
 pub(crate) fn near_command(word: &[u8]) -> Option<&'static [u8]> {
-    let words: [&'static [u8]; 21] = [
-        b"block",
-        b"bread",
-        b"bwrite",
-        b"crunch",
-        b"delete",
-        b"format",
-        b"history",
-        b"keep",
-        b"list",
-        b"name",
-        b"petcat",
-        b"quit",
-        b"read",
-        b"redo",
-        b"rename",
-        b"save",
-        b"type",
-        b"undelete",
-        b"undo",
-        b"validate",
-        b"write",
-    ];
     let mut near = None;
-    for command in words {
-        if word.eq_ignore_ascii_case(command) {
-            return Some(command);
+    for command in LineCommand::ALL {
+        let name = command.name().as_bytes();
+        if word.eq_ignore_ascii_case(name) {
+            return Some(name);
         }
-        if near.is_none() && is_near(word, command) {
-            near = Some(command);
+        if near.is_none() && is_near(word, name) {
+            near = Some(name);
         }
     }
     near

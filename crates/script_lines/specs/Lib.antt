@@ -6,7 +6,8 @@ pub mod HistoryText
 pub mod FoundFile
 pub mod BasicFiles
 pub mod Act
-pub mod WordCounts
+pub mod ArgumentCounts
+pub mod LineCommand
 pub mod Response
 pub mod Line
 pub mod LineValue

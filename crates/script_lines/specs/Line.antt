@@ -1,8 +1,7 @@
 -- What each line of a script asks for.
-use Rattle.std.specs.Prelude.{◌≡◌, ℕ, nat_lt, List, [], ◌∷◌, ◌++◌, map, length, true, ◌+◌, ◌==◌, if◌then◌else◌, Option, None, Some, MatchOption, ok_or, find, codes}
+use Rattle.std.specs.Prelude.{◌≡◌, ℕ, nat_lt, List, [], ◌∷◌, length, true, ◌+◌, ◌==◌, if◌then◌else◌, Option, None, Some, MatchOption, ok_or}
 use Rattle.d64_image.specs.Disk.{Bytes}
 use Rattle.std.specs.Option.{option_map_or}
-use Rattle.std.specs.Str.{bytes_eq}
 use Rattle.d64_files.specs.Name.{is_name}
 use Rattle.d64_image.specs.Image.{sector_at, bytes_of}
 use Rattle.d64_history.specs.History.{History, present_image, extended_history, undone_history, redone_history}
@@ -22,7 +21,10 @@ use Rattle.script_lines.specs.HistoryText.{history_text}
 use Rattle.script_lines.specs.ListingText.{listing_text}
 use Rattle.script_text.specs.RawLines.{text_of, is_too_long, is_skipped}
 use Rattle.script_text.specs.Dump.{dump}
-use Rattle.script_lines.specs.WordCounts.{no_word, one_word, at_most_one, word_and, some_words}
+use Rattle.script_lines.specs.ArgumentCounts.{no_argument, one_argument, at_most_one, argument_and, some_arguments}
+use Rattle.script_lines.specs.LineCommand.{command_named}
+use Rattle.script_lines.specs.declared.line_command.LineCommand.{LineCommand}
+use Rattle.script_lines.specs.declared.line_command.LineCommand.TheVariants as commands
 use Rattle.script_lines.specs.Act.{Act, Give, Refuse, ◌>>=◌, ◌>>◌, value_or_refusal, need, Text, Fetch, Store, Crunch, Expand, Room, ask, each_text, Ending, plain_response, World, LineResponse, Does}
 use Rattle.d64_dos.specs.Change.{Change}
 use Rattle.d64_dos.specs.Change as changes
@@ -31,7 +33,7 @@ use Rattle.d64_dos.specs.declared.command.Reply.TheVariants as replies
 use Rattle.d64_dos.specs.declared.refusal.Refusal.{Refusal}
 use Rattle.d64_dos.specs.declared.refusal.Refusal.TheVariants as refusals
 use Rattle.script_text.specs.declared.status.Status.{Status}
-use Rattle.script_text.specs.declared.status.Status.TheVariants.{Done, FilesScratched, SyntaxError, UnknownCommand, LongLine, BadName, MissingWord, WriteFileOpen, FileNotFound, FileExists, FileTypeMismatch, DirectoryError, DiskFull, NothingToUndo, NothingToRedo, NotOneBlock, FileLost, OutOfMemory}
+use Rattle.script_text.specs.declared.status.Status.TheVariants.{Done, FilesScratched, SyntaxError, UnknownCommand, LongLine, BadName, MissingArgument, WriteFileOpen, FileNotFound, FileExists, FileTypeMismatch, DirectoryError, DiskFull, NothingToUndo, NothingToRedo, NotOneBlock, FileLost, OutOfMemory}
 
 abbrev pub status_of_refusal : Refusal → Status
 status_of_refusal refusals.NotClosed = WriteFileOpen
@@ -215,7 +217,7 @@ rename_act history (old_word, new_word) = do
 
 -- `save`: stores the image in a host file, by default its own
 abbrev pub save_act : Option Bytes → History → Option Bytes → Act Ending
-save_act None history None = Refuse MissingWord
+save_act None history None = Refuse MissingArgument
 save_act (Some home) history None = put history home (bytes_of (present_image history))
 save_act home history (Some host) = do
   name ← value_or_refusal (host_in host)
@@ -260,67 +262,38 @@ write_act history (host, word) = do
   bytes ← ask (Fetch source host_file_limit)
   run history (changes.Write name file.1 bytes)
 
--- the commands without arguments, each with its name and act
-abbrev pub lone_commands : History → List (Bytes × Act Ending)
-lone_commands history =
-    (codes "history", history_act history)
-    ∷ (codes "list", list_act history)
-    ∷ (codes "quit", quit_act history)
-    ∷ (codes "redo", redo_act history)
-    ∷ (codes "undo", undo_act history)
-    ∷ (codes "validate", validate_act history)
-    ∷ []
-
 -- an act, if there are no arguments
-abbrev pub after_no_word : List Bytes → Act Ending → Act Ending
-after_no_word words act = no_word words >> act
+abbrev pub alone : List Bytes → Act Ending → Act Ending
+alone arguments act = no_argument arguments >> act
 
--- the others that don't use the host, each with its name, how many arguments it takes, and its act
-abbrev pub disk_commands : History → List Bytes → List (Bytes × Act Ending)
-disk_commands history words =
-    (codes "block", word_and one_word words >>= block_act history)
-    ∷ (codes "delete", some_words words >>= delete_act history)
-    ∷ (codes "format", one_word words >>= format_act history)
-    ∷ (codes "name", one_word words >>= name_act history)
-    ∷ (codes "petcat", one_word words >>= petcat_act history)
-    ∷ (codes "rename", word_and one_word words >>= rename_act history)
-    ∷ (codes "type", one_word words >>= type_act history)
-    ∷ (codes "undelete", one_word words >>= undelete_act history)
-    ∷ []
-
--- those that take a file from the host to the disk or back
-abbrev pub file_commands : History → List Bytes → List (Bytes × Act Ending)
-file_commands history words =
-    (codes "crunch", word_and at_most_one words >>= crunch_act history)
-    ∷ (codes "read", word_and at_most_one words >>= read_act history)
-    ∷ (codes "write", word_and at_most_one words >>= write_act history)
-    ∷ []
-
--- those that fetch or store a block, the image or the session
-abbrev pub host_commands : Option Bytes → History → List Bytes → List (Bytes × Act Ending)
-host_commands home history words =
-    (codes "bread", word_and (word_and one_word) words >>= block_read_act history)
-    ∷ (codes "bwrite", word_and (word_and one_word) words >>= block_write_act history)
-    ∷ (codes "keep", one_word words >>= keep_act history)
-    ∷ (codes "save", at_most_one words >>= save_act home history)
-    ∷ []
-
-abbrev pub commands : Option Bytes → History → List Bytes → List (Bytes × Act Ending)
-commands home history words =
-    map (λ row. (row.0, after_no_word words row.1)) (lone_commands history) ++ disk_commands history words ++ file_commands history words ++ host_commands home history words
-
--- a command's row in a table
-abbrev pub row_of : Bytes → List (Bytes × Act Ending) → Option (Bytes × Act Ending)
-row_of command rows = find (λ row. bytes_eq command row.0) rows
-
--- a command's act by a table
-abbrev pub act_in : List (Bytes × Act Ending) → Bytes → Act Ending
-act_in rows command = option_map_or (λ row. row.1) (row_of command rows) (Refuse UnknownCommand)
+-- the act of a command with its arguments
+abbrev pub act_for : Option Bytes → History → LineCommand → List Bytes → Act Ending
+act_for home history commands.Block arguments = argument_and one_argument arguments >>= block_act history
+act_for home history commands.BlockRead arguments = argument_and (argument_and one_argument) arguments >>= block_read_act history
+act_for home history commands.BlockWrite arguments = argument_and (argument_and one_argument) arguments >>= block_write_act history
+act_for home history commands.Crunch arguments = argument_and at_most_one arguments >>= crunch_act history
+act_for home history commands.Delete arguments = some_arguments arguments >>= delete_act history
+act_for home history commands.Format arguments = one_argument arguments >>= format_act history
+act_for home history commands.ListHistory arguments = alone arguments (history_act history)
+act_for home history commands.Keep arguments = one_argument arguments >>= keep_act history
+act_for home history commands.ListDirectory arguments = alone arguments (list_act history)
+act_for home history commands.Name arguments = one_argument arguments >>= name_act history
+act_for home history commands.Petcat arguments = one_argument arguments >>= petcat_act history
+act_for home history commands.Quit arguments = alone arguments (quit_act history)
+act_for home history commands.Read arguments = argument_and at_most_one arguments >>= read_act history
+act_for home history commands.Redo arguments = alone arguments (redo_act history)
+act_for home history commands.Rename arguments = argument_and one_argument arguments >>= rename_act history
+act_for home history commands.Save arguments = at_most_one arguments >>= save_act home history
+act_for home history commands.ShowText arguments = one_argument arguments >>= type_act history
+act_for home history commands.Undelete arguments = one_argument arguments >>= undelete_act history
+act_for home history commands.Undo arguments = alone arguments (undo_act history)
+act_for home history commands.Validate arguments = alone arguments (validate_act history)
+act_for home history commands.Write arguments = argument_and at_most_one arguments >>= write_act history
 
 -- the act of a line, by its command and arguments
 abbrev pub act_of_words : Option Bytes → History → List Bytes → Act Ending
 act_of_words home history [] = Refuse UnknownCommand
-act_of_words home history (first ∷ words) = act_in (commands home history words) first
+act_of_words home history (name ∷ arguments) = option_map_or (λ command. act_for home history command arguments) (command_named name) (Refuse UnknownCommand)
 
 -- the act of the text of a line
 abbrev pub act_of_text : Option Bytes → History → Bytes → Act Ending

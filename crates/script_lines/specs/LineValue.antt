@@ -38,6 +38,6 @@ act_of_result home history (Ok line) = act_of home history line
 act_of_result home history (Err status) = Refuse status
 
 -- arguments as they were read, each as its bytes, or the status that refuses them
-abbrev pub words_or_refusal : {A B : Type 0} → (A → B) → Result A Status → Act B
-words_or_refusal bytes (Ok words) = Give (bytes words)
-words_or_refusal bytes (Err status) = Refuse status
+abbrev pub arguments_or_refusal : {A B : Type 0} → (A → B) → Result A Status → Act B
+arguments_or_refusal bytes (Ok words) = Give (bytes words)
+arguments_or_refusal bytes (Err status) = Refuse status

@@ -8,9 +8,11 @@ pub mod arguments;
 pub mod file_text;
 pub mod host_file;
 mod line;
+mod line_command;
 pub mod listing_text;
 mod response;
 pub mod status_from;
 
 pub use line::Line;
+pub use line_command::LineCommand;
 pub use response::{Output, Response};

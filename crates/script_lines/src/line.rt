@@ -1,11 +1,12 @@
 //! `Line`: a line of a script as a value, made of its command and arguments.
-ghost use Rattle.std.specs.Prelude.{◌≡◌, ◌++◌, Option, map, option_map};
+ghost use Rattle.std.specs.Prelude.{◌≡◌, Option, map, option_map};
 ghost use Rattle.d64_image.specs.Disk.{Bytes};
 ghost use Rattle.d64_history.specs.History.{History};
-ghost use Rattle.script_lines.specs.Line.{act_in, row_of, after_no_word, lone_commands, disk_commands, file_commands, host_commands};
-ghost use Rattle.script_lines.specs.LineValue.{act_of, act_of_result, words_or_refusal};
-ghost use Rattle.script_lines.specs.WordCounts.{one_word, at_most_one, word_and, some_words};
+ghost use Rattle.script_lines.specs.Line.{act_for, alone};
+ghost use Rattle.script_lines.specs.LineValue.{act_of, act_of_result, arguments_or_refusal};
+ghost use Rattle.script_lines.specs.ArgumentCounts.{one_argument, at_most_one, argument_and, some_arguments};
 
+use crate::line_command::LineCommand;
 use script_text::status::Status;
 use script_text::words::MAX_WORDS;
 
@@ -103,174 +104,101 @@ impl<'a> Line<'a> {
     pub fn of(words: &'a [&'a str]) -> Result<Line<'a>, Status>
         ensures { (home : Option Bytes) (history : History) → act_of_result home history result ≡ act_of_words home history (map (λ word. word.now) words.now) }
     {
-        let Some((command, words)) = words.split_first() else {
+        let Some((name, arguments)) = words.split_first() else {
             return Err(Status::UnknownCommand);
         };
-        match alone(command) {
-            Some(line) => with_no_word(line, words),
-            None => on_the_disk(command, words),
+        match LineCommand::named(name) {
+            Some(command) => with_arguments(command, arguments),
+            None => Err(Status::UnknownCommand),
         }
     }
 }
 
-/// Reads a command that takes no arguments.
-fn alone<'a>(command: &str) -> Option<Line<'a>>
-    ensures { (home : Option Bytes) (history : History) → option_map (act_of home history) result ≡ option_map (λ row. row.1) (row_of command.now (lone_commands history)) }
+/// Reads the arguments of a command.
+fn with_arguments<'a>(command: LineCommand, given: &'a [&'a str]) -> Result<Line<'a>, Status>
+    ensures { (home : Option Bytes) (history : History) → act_of_result home history result ≡ act_for home history command (map (λ word. word.now) given.now) }
 {
     match command {
-        "history" => Some(Line::ListHistory),
-        "list" => Some(Line::ListDirectory),
-        "quit" => Some(Line::Quit),
-        "redo" => Some(Line::Redo),
-        "undo" => Some(Line::Undo),
-        "validate" => Some(Line::Validate),
-        _ => None,
+        LineCommand::Block => two(given).map(|(track, sector)| Line::Block { track, sector }),
+        LineCommand::BlockRead => three(given).map(|(host, track, sector)| Line::BlockRead {
+            host,
+            track,
+            sector,
+        }),
+        LineCommand::BlockWrite => three(given).map(|(host, track, sector)| Line::BlockWrite {
+            host,
+            track,
+            sector,
+        }),
+        LineCommand::Crunch => one_or_two(given).map(|(host, name)| Line::Crunch { host, name }),
+        LineCommand::Delete => some(given).map(|patterns| Line::Delete { patterns }),
+        LineCommand::Format => one(given).map(|name_and_id| Line::Format { name_and_id }),
+        LineCommand::ListHistory => alone(Line::ListHistory, given),
+        LineCommand::Keep => one(given).map(|host| Line::Keep { host }),
+        LineCommand::ListDirectory => alone(Line::ListDirectory, given),
+        LineCommand::Name => one(given).map(|name_and_id| Line::Name { name_and_id }),
+        LineCommand::Petcat => one(given).map(|name| Line::Petcat { name }),
+        LineCommand::Quit => alone(Line::Quit, given),
+        LineCommand::Read => one_or_two(given).map(|(name, host)| Line::Read { name, host }),
+        LineCommand::Redo => alone(Line::Redo, given),
+        LineCommand::Rename => two(given).map(|(old, new)| Line::Rename { old, new }),
+        LineCommand::Save => at_most_one(given).map(|host| Line::Save { host }),
+        LineCommand::ShowText => one(given).map(|name| Line::ShowText { name }),
+        LineCommand::Undelete => one(given).map(|name_and_kind| Line::Undelete { name_and_kind }),
+        LineCommand::Undo => alone(Line::Undo, given),
+        LineCommand::Validate => alone(Line::Validate, given),
+        LineCommand::Write => one_or_two(given).map(|(host, name)| Line::Write { host, name }),
     }
 }
 
 /// A line whose command takes no arguments, if it has none.
-fn with_no_word<'a>(line: Line<'a>, words: &[&str]) -> Result<Line<'a>, Status>
-    ensures { (home : Option Bytes) (history : History) → act_of_result home history result ≡ after_no_word (map (λ word. word.now) words.now) (act_of home history line.entry) }
+fn alone<'a>(line: Line<'a>, given: &[&str]) -> Result<Line<'a>, Status>
+    ensures { (home : Option Bytes) (history : History) → act_of_result home history result ≡ alone (map (λ word. word.now) given.now) (act_of home history line.entry) }
 {
-    match words {
+    match given {
         [] => Ok(line),
         _ => Err(Status::SyntaxError),
     }
 }
 
-/// Reads a command with arguments that does not use the host, or else one of those below.
-fn on_the_disk<'a>(command: &str, words: &'a [&'a str]) -> Result<Line<'a>, Status>
-    ensures { (home : Option Bytes) (history : History) → act_of_result home history result ≡ act_in (disk_commands history (map (λ word. word.now) words.now) ++ file_commands history (map (λ word. word.now) words.now) ++ host_commands home history (map (λ word. word.now) words.now)) command.now }
-{
-    match command {
-        "block" => match two_words(words) {
-            Ok((track, sector)) => Ok(Line::Block { track, sector }),
-            Err(status) => Err(status),
-        },
-        "delete" => match some_words(words) {
-            Ok(patterns) => Ok(Line::Delete { patterns }),
-            Err(status) => Err(status),
-        },
-        "format" => match one_word(words) {
-            Ok(name_and_id) => Ok(Line::Format { name_and_id }),
-            Err(status) => Err(status),
-        },
-        "name" => match one_word(words) {
-            Ok(name_and_id) => Ok(Line::Name { name_and_id }),
-            Err(status) => Err(status),
-        },
-        "petcat" => match one_word(words) {
-            Ok(name) => Ok(Line::Petcat { name }),
-            Err(status) => Err(status),
-        },
-        "rename" => match two_words(words) {
-            Ok((old, new)) => Ok(Line::Rename { old, new }),
-            Err(status) => Err(status),
-        },
-        "type" => match one_word(words) {
-            Ok(name) => Ok(Line::ShowText { name }),
-            Err(status) => Err(status),
-        },
-        "undelete" => match one_word(words) {
-            Ok(name_and_kind) => Ok(Line::Undelete { name_and_kind }),
-            Err(status) => Err(status),
-        },
-        _ => with_a_file(command, words),
-    }
-}
-
-/// Reads a command that takes a file from the host to the disk or back, or else one of those below.
-fn with_a_file<'a>(command: &str, words: &[&'a str]) -> Result<Line<'a>, Status>
-    ensures { (home : Option Bytes) (history : History) → act_of_result home history result ≡ act_in (file_commands history (map (λ word. word.now) words.now) ++ host_commands home history (map (λ word. word.now) words.now)) command.now }
-{
-    match command {
-        "crunch" => match one_or_two(words) {
-            Ok((host, name)) => Ok(Line::Crunch { host, name }),
-            Err(status) => Err(status),
-        },
-        "read" => match one_or_two(words) {
-            Ok((name, host)) => Ok(Line::Read { name, host }),
-            Err(status) => Err(status),
-        },
-        "write" => match one_or_two(words) {
-            Ok((host, name)) => Ok(Line::Write { host, name }),
-            Err(status) => Err(status),
-        },
-        _ => with_the_host(command, words),
-    }
-}
-
-/// Reads a command that fetches or stores a block, the image or the session.
-fn with_the_host<'a>(command: &str, words: &[&'a str]) -> Result<Line<'a>, Status>
-    ensures { (home : Option Bytes) (history : History) → act_of_result home history result ≡ act_in (host_commands home history (map (λ word. word.now) words.now)) command.now }
-{
-    match command {
-        "bread" => match three_words(words) {
-            Ok((host, track, sector)) => Ok(Line::BlockRead {
-                host,
-                track,
-                sector,
-            }),
-            Err(status) => Err(status),
-        },
-        "bwrite" => match three_words(words) {
-            Ok((host, track, sector)) => Ok(Line::BlockWrite {
-                host,
-                track,
-                sector,
-            }),
-            Err(status) => Err(status),
-        },
-        "keep" => match one_word(words) {
-            Ok(host) => Ok(Line::Keep { host }),
-            Err(status) => Err(status),
-        },
-        "save" => match at_most_one(words) {
-            Ok(host) => Ok(Line::Save { host }),
-            Err(status) => Err(status),
-        },
-        _ => Err(Status::UnknownCommand),
-    }
-}
-
 /// Exactly one argument.
-fn one_word<'a>(words: &[&'a str]) -> Result<&'a str, Status>
-    ensures { words_or_refusal (λ word. word.now) result ≡ one_word (map (λ word. word.now) words.now) }
+fn one<'a>(given: &[&'a str]) -> Result<&'a str, Status>
+    ensures { arguments_or_refusal (λ word. word.now) result ≡ one_argument (map (λ word. word.now) given.now) }
 {
-    match words {
-        [] => Err(Status::MissingWord),
+    match given {
+        [] => Err(Status::MissingArgument),
         [word] => Ok(word),
         _ => Err(Status::SyntaxError),
     }
 }
 
 /// Exactly two arguments.
-fn two_words<'a>(words: &[&'a str]) -> Result<(&'a str, &'a str), Status>
-    ensures { words_or_refusal (λ pair. (pair.0.now, pair.1.now)) result ≡ word_and one_word (map (λ word. word.now) words.now) }
+fn two<'a>(given: &[&'a str]) -> Result<(&'a str, &'a str), Status>
+    ensures { arguments_or_refusal (λ pair. (pair.0.now, pair.1.now)) result ≡ argument_and one_argument (map (λ word. word.now) given.now) }
 {
-    match words {
-        [] | [_] => Err(Status::MissingWord),
+    match given {
+        [] | [_] => Err(Status::MissingArgument),
         [first, second] => Ok((first, second)),
         _ => Err(Status::SyntaxError),
     }
 }
 
 /// Exactly three arguments.
-fn three_words<'a>(words: &[&'a str]) -> Result<(&'a str, &'a str, &'a str), Status>
-    ensures { words_or_refusal (λ three. (three.0.now, (three.1.now, three.2.now))) result ≡ word_and (word_and one_word) (map (λ word. word.now) words.now) }
+fn three<'a>(given: &[&'a str]) -> Result<(&'a str, &'a str, &'a str), Status>
+    ensures { arguments_or_refusal (λ three. (three.0.now, (three.1.now, three.2.now))) result ≡ argument_and (argument_and one_argument) (map (λ word. word.now) given.now) }
 {
-    match words {
-        [] | [_] | [_, _] => Err(Status::MissingWord),
+    match given {
+        [] | [_] | [_, _] => Err(Status::MissingArgument),
         [first, second, third] => Ok((first, second, third)),
         _ => Err(Status::SyntaxError),
     }
 }
 
 /// No argument, or one.
-fn at_most_one<'a>(words: &[&'a str]) -> Result<Option<&'a str>, Status>
-    ensures { words_or_refusal (option_map (λ word. word.now)) result ≡ at_most_one (map (λ word. word.now) words.now) }
+fn at_most_one<'a>(given: &[&'a str]) -> Result<Option<&'a str>, Status>
+    ensures { arguments_or_refusal (option_map (λ word. word.now)) result ≡ at_most_one (map (λ word. word.now) given.now) }
 {
-    match words {
+    match given {
         [] => Ok(None),
         [word] => Ok(Some(word)),
         _ => Err(Status::SyntaxError),
@@ -278,11 +206,11 @@ fn at_most_one<'a>(words: &[&'a str]) -> Result<Option<&'a str>, Status>
 }
 
 /// One argument, and perhaps another.
-fn one_or_two<'a>(words: &[&'a str]) -> Result<(&'a str, Option<&'a str>), Status>
-    ensures { words_or_refusal (λ pair. (pair.0.now, option_map (λ word. word.now) pair.1)) result ≡ word_and at_most_one (map (λ word. word.now) words.now) }
+fn one_or_two<'a>(given: &[&'a str]) -> Result<(&'a str, Option<&'a str>), Status>
+    ensures { arguments_or_refusal (λ pair. (pair.0.now, option_map (λ word. word.now) pair.1)) result ≡ argument_and at_most_one (map (λ word. word.now) given.now) }
 {
-    match words {
-        [] => Err(Status::MissingWord),
+    match given {
+        [] => Err(Status::MissingArgument),
         [first] => Ok((first, None)),
         [first, second] => Ok((first, Some(second))),
         _ => Err(Status::SyntaxError),
@@ -290,12 +218,12 @@ fn one_or_two<'a>(words: &[&'a str]) -> Result<(&'a str, Option<&'a str>), Statu
 }
 
 /// One argument or more, up to as many as a line has.
-fn some_words<'a>(words: &'a [&'a str]) -> Result<&'a [&'a str], Status>
-    ensures { words_or_refusal (λ some. map (λ word. word.now) some.now) result ≡ some_words (map (λ word. word.now) words.now) }
+fn some<'a>(given: &'a [&'a str]) -> Result<&'a [&'a str], Status>
+    ensures { arguments_or_refusal (λ some. map (λ word. word.now) some.now) result ≡ some_arguments (map (λ word. word.now) given.now) }
 {
-    match words.len() {
-        0 => Err(Status::MissingWord),
-        1..=MAX_WORDS => Ok(words),
+    match given.len() {
+        0 => Err(Status::MissingArgument),
+        1..=MAX_WORDS => Ok(given),
         _ => Err(Status::SyntaxError),
     }
 }

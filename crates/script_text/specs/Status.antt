@@ -2,7 +2,7 @@
 use Rattle.std.specs.Prelude.{ℕ, nat_lt, Bool, if◌then◌else◌, List, [], ◌++◌, codes}
 use Rattle.std.specs.Fmt.{decimal}
 use Rattle.script_text.specs.declared.status.Status.{Status}
-use Rattle.script_text.specs.declared.status.Status.TheVariants.{Done, FilesScratched, SyntaxError, UnknownCommand, LongLine, BadName, MissingWord, WriteFileOpen, FileNotFound, FileExists, FileTypeMismatch, IllegalBlock, DirectoryError, DiskFull, HostFile, NothingToUndo, NothingToRedo, NotOneBlock, BasicText, NotBasic, FileLost, OutOfMemory}
+use Rattle.script_text.specs.declared.status.Status.TheVariants.{Done, FilesScratched, SyntaxError, UnknownCommand, LongLine, BadName, MissingArgument, WriteFileOpen, FileNotFound, FileExists, FileTypeMismatch, IllegalBlock, DirectoryError, DiskFull, HostFile, NothingToUndo, NothingToRedo, NotOneBlock, BasicText, NotBasic, FileLost, OutOfMemory}
 
 -- a status's number and text
 abbrev pub status_row : Status → ℕ × List ℕ
@@ -12,7 +12,7 @@ status_row SyntaxError = (30, codes "SYNTAX ERROR")
 status_row UnknownCommand = (31, codes "SYNTAX ERROR")
 status_row LongLine = (32, codes "SYNTAX ERROR")
 status_row BadName = (33, codes "SYNTAX ERROR")
-status_row MissingWord = (34, codes "SYNTAX ERROR")
+status_row MissingArgument = (34, codes "SYNTAX ERROR")
 status_row WriteFileOpen = (60, codes "WRITE FILE OPEN")
 status_row FileNotFound = (62, codes "FILE NOT FOUND")
 status_row FileExists = (63, codes "FILE EXISTS")

@@ -31,7 +31,7 @@ pub enum Status {
     /// 33: a name, a pattern, an id or the name of a host file is not valid.
     BadName,
     /// 34: the command takes more arguments.
-    MissingWord,
+    MissingArgument,
     /// 60: the file was never closed.
     WriteFileOpen,
     /// 62: there is no such file on the disk.
@@ -121,7 +121,7 @@ impl Status {
             Status::UnknownCommand => (31, b"SYNTAX ERROR"),
             Status::LongLine => (32, b"SYNTAX ERROR"),
             Status::BadName => (33, b"SYNTAX ERROR"),
-            Status::MissingWord => (34, b"SYNTAX ERROR"),
+            Status::MissingArgument => (34, b"SYNTAX ERROR"),
             Status::WriteFileOpen => (60, b"WRITE FILE OPEN"),
             Status::FileNotFound => (62, b"FILE NOT FOUND"),
             Status::FileExists => (63, b"FILE EXISTS"),

@@ -82,7 +82,7 @@ const STATUSES: [(Status, &str); 24] = [
     (Status::UnknownCommand, "31,SYNTAX ERROR,00,00\n"),
     (Status::LongLine, "32,SYNTAX ERROR,00,00\n"),
     (Status::BadName, "33,SYNTAX ERROR,00,00\n"),
-    (Status::MissingWord, "34,SYNTAX ERROR,00,00\n"),
+    (Status::MissingArgument, "34,SYNTAX ERROR,00,00\n"),
     (Status::WriteFileOpen, "60,WRITE FILE OPEN,00,00\n"),
     (Status::FileNotFound, "62,FILE NOT FOUND,00,00\n"),
     (Status::FileExists, "63,FILE EXISTS,00,00\n"),

@@ -4,26 +4,26 @@ use Rattle.std.specs.Io.KnownBytes.{Appends}
 use Rattle.std.proofs.KnownBytes.{Appends-trans}
 use Rattle.std.proofs.lemmas.List.{at_drop_more, drop_all}
 use Rattle.host_storage.specs.Output.{AppendsPart, Writes, account_of}
-use Rattle.script_hints.specs.Advice.{piece_of, pieces, said_piece}
+use Rattle.script_hints.specs.Advice.{piece_of, pieces, piece_bytes}
 use Rattle.script_hints.specs.declared.advice.Piece.{Piece as CodePiece}
 use Rattle.script_hints.proofs.Writings.{AppendsPart-after, AppendsPart-more, Writes-after, whole_of}
 use Rattle.script_hints.proofs.advisor.write_advice.Goals as goal
 
 pub returns-in_err-write-clause-either : goal.returns-in_err-write-clause-either
 returns-in_err-write-clause-either g c =
-    inr (AppendsPart-more _ _ (c.args.start.now) (flat_map (said_piece c.args.said.now) (pieces c.args.advice) ++ codes "\n") c.in_err-write.ensures.err, c.in_err-write.ensures.failed)
+    inr (AppendsPart-more _ _ (c.args.start.now) (flat_map (piece_bytes c.args.parts.now) (pieces c.args.advice) ++ codes "\n") c.in_err-write.ensures.err, c.in_err-write.ensures.failed)
 
 -- a write failed at a piece
 pub returns-in_err-write-2-clause-either : goal.returns-in_err-write-2-clause-either
 returns-in_err-write-2-clause-either g c =
     let i = c.loop-piece.invariant in
     let all = c.args.advice.pieces in
-    let advised : List CodePiece → List ℕ = λ ps. flat_map (said_piece c.args.said.now) (map piece_of ps) in
+    let advised : List CodePiece → List ℕ = λ ps. flat_map (piece_bytes c.args.parts.now) (map piece_of ps) in
     let word = c.of.result.now in
     let more : List ℕ = advised (drop (c.loop-piece.piece-index + 1) all) in
     let within : c.loop-piece.piece-index < length all = search rules in
     let next : advised (drop c.loop-piece.piece-index all) ≡ word ++ more = rw c.of.ensures (at_drop_more advised all c.loop-piece.piece-index _ within) in
-    let is : i.done ++ (word ++ more) ≡ flat_map (said_piece c.args.said.now) (pieces c.args.advice) = ap (λ l. i.done ++ l) (sym next) ∙ i.split in
+    let is : i.done ++ (word ++ more) ≡ flat_map (piece_bytes c.args.parts.now) (pieces c.args.advice) = ap (λ l. i.done ++ l) (sym next) ∙ i.split in
     let old = g.W.Write.contents c.args.output.now.writer.now in
     let new = g.W.Write.contents c.write-in-loop-piece.new.self.writer.now in
     inr (
@@ -38,7 +38,7 @@ pub loop-piece-preserved : goal.loop-piece-preserved
 loop-piece-preserved g c =
     let i = c.loop-piece.invariant in
     let all = c.args.advice.pieces in
-    let advised : List CodePiece → List ℕ = λ ps. flat_map (said_piece c.args.said.now) (map piece_of ps) in
+    let advised : List CodePiece → List ℕ = λ ps. flat_map (piece_bytes c.args.parts.now) (map piece_of ps) in
     let word = c.of.result.now in
     let more : List ℕ = advised (drop (c.loop-piece.piece-index + 1) all) in
     let within : c.loop-piece.piece-index < length all = search rules in
@@ -52,7 +52,7 @@ loop-piece-preserved g c =
           (Appends-trans old (g.W.Write.contents c.loop-piece.output.writer.now) new (c.args.start.now ++ i.done) word i.written c.in_ok-write-2.ensures.ok);
       unfailed = c.in_ok-write-2.ensures.failed ∙ i.unfailed;
       same = c.write-in-loop-piece.ensures.same ∙ i.same;
-      said = refl;
+      parts = refl;
     }
 
 -- all pieces are written, and then the line's end
@@ -61,8 +61,8 @@ returns-clause-either g c =
     let i = c.loop-piece.invariant in
     let past : length c.args.advice.pieces ≤ c.loop-piece.piece-index = search rules in
     let none = drop_all c.loop-piece.piece-index c.args.advice.pieces past in
-    let advised : List CodePiece → List ℕ = λ ps. flat_map (said_piece c.args.said.now) (map piece_of ps) in
-    let whole : i.done ≡ flat_map (said_piece c.args.said.now) (pieces c.args.advice) = sym (append-nil i.done) ∙ ap (λ l. i.done ++ advised l) (sym none) ∙ i.split in
+    let advised : List CodePiece → List ℕ = λ ps. flat_map (piece_bytes c.args.parts.now) (map piece_of ps) in
+    let whole : i.done ≡ flat_map (piece_bytes c.args.parts.now) (pieces c.args.advice) = sym (append-nil i.done) ∙ ap (λ l. i.done ++ advised l) (sym none) ∙ i.split in
     let old = account_of (g.W.Write.contents c.args.output.now.writer.now) c.args.output.now.has_failed in
     let new = account_of (g.W.Write.contents c.write-2.new.self.writer.now) c.write-2.new.self.has_failed in
     subst (Writes old new) (append_assoc (c.args.start.now) i.done (codes "\n") ∙ ap (λ l. c.args.start.now ++ (l ++ codes "\n")) whole)

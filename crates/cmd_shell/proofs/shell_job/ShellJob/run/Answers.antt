@@ -1,5 +1,5 @@
 -- The script has run from its beginning, and a flush of the output changes none of its bytes.
-use Rattle.std.proofs.Common.{◌≡◌, ◌∙◌, Ok, Err, inl, inr, refl, sym, ap, subst, option_copied, rules}
+use Rattle.std.proofs.Common.{◌≡◌, Ok, Err, inl, inr, refl, sym, ap, subst, option_copied, rules}
 use Rattle.cmd_shell.specs.Beginnings.{source_by}
 use Rattle.host_storage.specs.Input.{reading_of}
 use Rattle.program_console.specs.Outside.{Outside, account_at, outside_at, outside_of}

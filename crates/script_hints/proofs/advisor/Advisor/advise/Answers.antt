@@ -1,6 +1,6 @@
 use Rattle.std.proofs.Common.{◌++◌, Vec, Global, ℕ, List, inl, inr, refl, ap, ◌∙◌, subst}
-use Rattle.script_hints.specs.Advice.{advice, advice_words}
-use Rattle.script_hints.specs.Said.{Said, said_by}
+use Rattle.script_hints.specs.Advice.{advice, advice_text}
+use Rattle.script_hints.specs.LineParts.{LineParts, parts_of_line}
 use Rattle.script_hints.specs.TextCause.{IsCauseLine}
 use Rattle.script_hints.proofs.LineStarts.{may_start}
 use Rattle.script_hints.proofs.advisor.Advisor.advise.Goals.{in-Some, in-None}
@@ -12,16 +12,16 @@ returns-after-cause_line-clause-advised g c raw says refused =
     let start = c.bytes_of-start.result.now in
     let begun = may_start (λ (text : Vec ℕ Global). text.items) c.args.line.now c.args.self.now.is_numbered c.args.self.now.lines c.args.self.now.first_bytes.items raw start
     c.start_of-start.result c.start_of-start.ensures says c.bytes_of-start.ensures in
-    let first = ap (λ (words : Said). words.first) (c.said.view_is ∙ c.of-said.ensures raw says) in
+    let first = ap (λ (words : LineParts). words.first) (c.parts.view_is ∙ c.of-parts.ensures raw says) in
     elim c.match-cause_line.branch [
       | in-Some w ↦
           rw w.self-is (start, w.in-Some.line.items, begun, inl (subst (λ (name : List ℕ). IsCauseLine (g.H.Host.state c.args.self.now.host) start name c.args.status.now w.in-Some.line.items) first w.in-Some.ensures), rw w.as_slice.ensures.value at w.write.ensures.either)
       | in-None w ↦
           rw w.self-is (
             start,
-            start ++ advice_words (said_by raw) (advice (said_by raw) c.args.status.now),
+            start ++ advice_text (parts_of_line raw) (advice (parts_of_line raw) c.args.status.now),
             begun,
             inr refl,
-            rw (c.of-said.ensures raw says) at (rw c.of-advice.ensures at w.write_advice.ensures.either),
+            rw (c.of-parts.ensures raw says) at (rw c.of-advice.ensures at w.write_advice.ensures.either),
           )
     ]

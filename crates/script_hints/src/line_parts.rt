@@ -2,7 +2,7 @@
 ghost use Rattle.std.specs.Prelude.{◌≡◌, ◌≤◌, ℕ, List, [], All, length, drop};
 ghost use Rattle.script_text.specs.HeldLine.{HoldsText};
 ghost use Rattle.script_text.specs.Words.{IsPrintable};
-ghost use Rattle.script_hints.specs.Said.{first_of, said_of, said_in, said_by};
+ghost use Rattle.script_hints.specs.LineParts.{first_of, parts_of_words, parts_of_text, parts_of_line};
 
 use script_text::held_line::HeldLine;
 use script_text::words::{Words, as_text};
@@ -10,9 +10,9 @@ use std::marker::Model;
 
 /// The command and the arguments of a line; a missing one is empty.
 #[derive(Drop)]
-pub(crate) struct Said<'a> {
+pub(crate) struct LineParts<'a> {
     /// The command.
-    pub(crate) word: &'a str,
+    pub(crate) command: &'a str,
     pub(crate) first: &'a [u8],
     pub(crate) second: &'a [u8],
     pub(crate) third: &'a [u8],
@@ -21,21 +21,21 @@ pub(crate) struct Said<'a> {
     pub(crate) count: usize,
 }
 
-impl<'a> Model for Said<'a> {
-    ghost use Rattle.script_hints.specs.Said.{Said};
+impl<'a> Model for LineParts<'a> {
+    ghost use Rattle.script_hints.specs.LineParts.{LineParts};
 
-    ghost Value = { Said };
+    ghost Value = { LineParts };
 
-    ghost view = { λ s. record { word = s.word.now; first = s.first.now; second = s.second.now; third = s.third.now; fourth = s.fourth.now; count = s.count } };
+    ghost view = { λ s. record { command = s.command.now; first = s.first.now; second = s.second.now; third = s.third.now; fourth = s.fourth.now; count = s.count } };
 }
 
-impl<'a> Said<'a> {
+impl<'a> LineParts<'a> {
     /// A line with nothing on it.
-    fn nothing() -> Said<'a>
-        ensures { result ≡ said_of [] }
+    fn nothing() -> LineParts<'a>
+        ensures { result ≡ parts_of_words [] }
     {
-        Said {
-            word: "",
+        LineParts {
+            command: "",
             first: b"",
             second: b"",
             third: b"",
@@ -46,39 +46,39 @@ impl<'a> Said<'a> {
 
     /// The parts of a line that was read to its end; nothing if it is too long, or has a byte or a
     /// quote that no line has.
-    pub(crate) fn of(line: &'a HeldLine) -> Said<'a>
-        ensures { (raw : List ℕ) → HoldsText line.now raw → result ≡ said_by raw }
+    pub(crate) fn of(line: &'a HeldLine) -> LineParts<'a>
+        ensures { (raw : List ℕ) → HoldsText line.now raw → result ≡ parts_of_line raw }
     {
         match line.text() {
-            Some(text) => Said::in_text(text),
-            None => Said::nothing(),
+            Some(text) => LineParts::in_text(text),
+            None => LineParts::nothing(),
         }
     }
 
     /// The parts of a text; nothing if it has a byte or a quote that no line has.
-    fn in_text(text: &'a [u8]) -> Said<'a>
+    fn in_text(text: &'a [u8]) -> LineParts<'a>
         requires { length text.now ≤ 1024 }
-        ensures { result ≡ said_in text.now }
+        ensures { result ≡ parts_of_text text.now }
     {
         match Words::of(text) {
-            Ok(words) => Said::of_words(words),
-            Err(_) => Said::nothing(),
+            Ok(words) => LineParts::of_words(words),
+            Err(_) => LineParts::nothing(),
         }
     }
 
     /// The parts of a line with these arguments.
-    fn of_words(words: Words<'a>) -> Said<'a>
+    fn of_words(words: Words<'a>) -> LineParts<'a>
         requires { All (All IsPrintable) words }
-        ensures { result ≡ said_of words.entry }
+        ensures { result ≡ parts_of_words words.entry }
     {
         let mut words = words;
         let count = words.len();
-        let word = match words.next() {
-            Some(word) => as_text(word),
+        let command = match words.next() {
+            Some(command) => as_text(command),
             None => "",
         };
-        Said {
-            word,
+        LineParts {
+            command,
             first: next_word(&mut words),
             second: next_word(&mut words),
             third: next_word(&mut words),

@@ -5,8 +5,8 @@ use Rattle.script_text.specs.RawLines.{is_too_long, text_of}
 use Rattle.script_text.specs.Words.{words_of_line}
 
 -- the command and the arguments of a line; a missing one is empty
-pub record Said : Type 0 where
-  pub word : Bytes
+pub record LineParts : Type 0 where
+  pub command : Bytes
   pub first : Bytes
   pub second : Bytes
   pub third : Bytes
@@ -19,9 +19,9 @@ first_of [] = []
 first_of (word ∷ words) = word
 
 -- the parts of a line with these arguments
-abbrev pub said_of : List Bytes → Said
-said_of words = record {
-  word = first_of words;
+abbrev pub parts_of_words : List Bytes → LineParts
+parts_of_words words = record {
+  command = first_of words;
   first = first_of (drop 1 words);
   second = first_of (drop 1 (drop 1 words));
   third = first_of (drop 1 (drop 1 (drop 1 words)));
@@ -30,9 +30,9 @@ said_of words = record {
 }
 
 -- the parts of a text: nothing if it has a byte or a quote that no line has
-abbrev pub said_in : Bytes → Said
-said_in text = said_of (unwrap_or (words_of_line text) [])
+abbrev pub parts_of_text : Bytes → LineParts
+parts_of_text text = parts_of_words (unwrap_or (words_of_line text) [])
 
 -- the parts of a line: nothing if it is too long
-abbrev pub said_by : Bytes → Said
-said_by line = if is_too_long line then said_of [] else said_in (text_of line)
+abbrev pub parts_of_line : Bytes → LineParts
+parts_of_line line = if is_too_long line then parts_of_words [] else parts_of_text (text_of line)
