@@ -19,7 +19,7 @@ use d64_undo::{NothingToRedo, NothingToUndo, Session};
 use host_storage::Host;
 use petscii::{spelling_is_ascii, to_text};
 use script_lines::arguments::{
-    at_comma, block_in, host_in, id_in, name_and_kind_in, name_and_kind_of, name_in, name_word,
+    at_comma, block_in, host_in, id_in, name_and_kind_in, name_and_kind_of, name_in, new_name,
     pattern_in, patterns_in,
 };
 use script_lines::file_text::file_text;
@@ -110,10 +110,10 @@ pub(crate) fn crunch<H: Host>(
     source: &str,
     name: Option<&str>,
 ) -> Result<Response, Status>
-    ensures { Responds (crunch_act session.old (source.now, option_map (λ word. word.now) name.entry)) (H.state host.old) session.old result (H.state host.new) session.new }
+    ensures { Responds (crunch_act session.old (source.now, option_map (λ argument. argument.now) name.entry)) (H.state host.old) session.old result (H.state host.new) session.new }
 {
     let file = host_in(source)?;
-    let name = name_in(alloc, name_word(source, name))?;
+    let name = name_in(alloc, new_name(source, name))?;
     match fetch(alloc, host, file, HOST_FILE_BYTES) {
         Ok(text) => write_program(alloc, session, name, text.as_slice()),
         Err(fault) => Err(of_fault(fault)),
@@ -150,7 +150,7 @@ pub(crate) fn delete(
     session: &mut Session,
     patterns: &[&str],
 ) -> Result<Response, Status>
-    ensures { RespondsAlone (delete_act session.old (map (λ word. word.now) patterns.now)) session.old result session.new }
+    ensures { RespondsAlone (delete_act session.old (map (λ argument. argument.now) patterns.now)) session.old result session.new }
 {
     let patterns = patterns_in(alloc, patterns)?;
     run_command(session, &Command::Delete { patterns })
@@ -158,10 +158,14 @@ pub(crate) fn delete(
 
 /// `format`: makes the disk an empty one. The argument is split at its first comma, into the name
 /// and the id.
-pub(crate) fn format(alloc: Global, session: &mut Session, word: &str) -> Result<Response, Status>
-    ensures { RespondsAlone (format_act session.old word.now) session.old result session.new }
+pub(crate) fn format(
+    alloc: Global,
+    session: &mut Session,
+    argument: &str,
+) -> Result<Response, Status>
+    ensures { RespondsAlone (format_act session.old argument.now) session.old result session.new }
 {
-    let Some((name, id)) = at_comma(word.as_bytes()) else {
+    let Some((name, id)) = at_comma(argument.as_bytes()) else {
         return Err(Status::SyntaxError);
     };
     let name = name_in(alloc, name)?;
@@ -202,10 +206,10 @@ pub(crate) fn list(alloc: Global, session: &Session) -> Result<Response, Status>
 
 /// `name`: gives the disk another name. The argument may be split at its first comma, into the name
 /// and an id.
-pub(crate) fn name(alloc: Global, session: &mut Session, word: &str) -> Result<Response, Status>
-    ensures { RespondsAlone (name_act session.old word.now) session.old result session.new }
+pub(crate) fn name(alloc: Global, session: &mut Session, argument: &str) -> Result<Response, Status>
+    ensures { RespondsAlone (name_act session.old argument.now) session.old result session.new }
 {
-    let bytes = word.as_bytes();
+    let bytes = argument.as_bytes();
     match at_comma(bytes) {
         Some((name, id)) => name_with_id(alloc, session, name, id),
         None => name_alone(alloc, session, bytes),
@@ -272,11 +276,11 @@ pub(crate) fn read<H: Host>(
     name: &str,
     target: Option<&str>,
 ) -> Result<Response, Status>
-    ensures { Responds (read_act session.now (name.now, option_map (λ word. word.now) target.entry)) (H.state host.old) session.now result (H.state host.new) session.now }
+    ensures { Responds (read_act session.now (name.now, option_map (λ argument. argument.now) target.entry)) (H.state host.old) session.now result (H.state host.new) session.now }
 {
     let pattern = pattern_in(alloc, name)?;
     match target {
-        Some(word) => read_to(alloc, host, session, &pattern, word),
+        Some(argument) => read_to(alloc, host, session, &pattern, argument),
         None => read_as_found(alloc, host, session, &pattern),
     }
 }
@@ -287,11 +291,11 @@ fn read_to<H: Host>(
     host: &mut H,
     session: &Session,
     pattern: &Pattern,
-    word: &str,
+    argument: &str,
 ) -> Result<Response, Status>
-    ensures { Responds (read_to session.now pattern.now (Some word.now)) (H.state host.old) session.now result (H.state host.new) session.now }
+    ensures { Responds (read_to session.now pattern.now (Some argument.now)) (H.state host.old) session.now result (H.state host.new) session.now }
 {
-    let name = host_in(word)?;
+    let name = host_in(argument)?;
     match d64_dos::read(alloc, session.image(), pattern) {
         Ok(file) => store(alloc, host, name, file.bytes.as_slice()),
         Err(refusal) => Err(of_refusal(refusal)),
@@ -348,10 +352,10 @@ pub(crate) fn save<H: Host>(
     session: &Session,
     name: Option<&str>,
 ) -> Result<Response, Status>
-    ensures { Responds (save_act (option_copied home.entry) session.now (option_map (λ word. word.now) name.entry)) (H.state host.old) session.now result (H.state host.new) session.now }
+    ensures { Responds (save_act (option_copied home.entry) session.now (option_map (λ argument. argument.now) name.entry)) (H.state host.old) session.now result (H.state host.new) session.now }
 {
     let name = match name {
-        Some(word) => host_in(word)?,
+        Some(argument) => host_in(argument)?,
         None => home.ok_or(Status::MissingArgument)?,
     };
     store(alloc, host, name, session.image().bytes())
@@ -376,10 +380,14 @@ fn show_file(alloc: Global, session: &Session, pattern: &Pattern) -> Result<Resp
 
 /// `undelete`: brings back a deleted file. The argument may be split at its first comma, into the
 /// name and the letter of a kind.
-pub(crate) fn undelete(alloc: Global, session: &mut Session, word: &str) -> Result<Response, Status>
-    ensures { RespondsAlone (undelete_act session.old word.now) session.old result session.new }
+pub(crate) fn undelete(
+    alloc: Global,
+    session: &mut Session,
+    argument: &str,
+) -> Result<Response, Status>
+    ensures { RespondsAlone (undelete_act session.old argument.now) session.old result session.new }
 {
-    let (name, kind) = name_and_kind_in(word.as_bytes())?;
+    let (name, kind) = name_and_kind_in(argument.as_bytes())?;
     let name = name_in(alloc, name)?;
     run_command(session, &Command::Undelete { name, kind })
 }
@@ -407,7 +415,7 @@ pub(crate) fn write<H: Host>(
     source: &str,
     name: Option<&str>,
 ) -> Result<Response, Status>
-    ensures { Responds (write_act session.old (source.now, option_map (λ word. word.now) name.entry)) (H.state host.old) session.old result (H.state host.new) session.new }
+    ensures { Responds (write_act session.old (source.now, option_map (λ argument. argument.now) name.entry)) (H.state host.old) session.old result (H.state host.new) session.new }
 {
     let file = host_in(source)?;
     let (name, kind) = name_and_kind_of(source, name)?;

@@ -7,7 +7,7 @@ use Rattle.script_text.specs.declared.status.Status.{Status}
 use Rattle.script_text.specs.declared.status.Status.TheVariants.{Done, FilesScratched, SyntaxError, UnknownCommand, LongLine, BadName, MissingArgument, WriteFileOpen, FileNotFound, FileExists, FileTypeMismatch, IllegalBlock, DirectoryError, DiskFull, HostFile, NothingToUndo, NothingToRedo, NotOneBlock, BasicText, NotBasic, FileLost, OutOfMemory}
 use Rattle.script_hints.specs.LineParts.{LineParts}
 use Rattle.script_lines.specs.LineCommand.{command_named, most_arguments, usage}
-use Rattle.script_hints.specs.Hint.{hint_for, hint_text}
+use Rattle.script_hints.specs.Hint.{hint_text}
 use Rattle.script_hints.specs.Faults.{basic_fault, condition_text, list_fault}
 use Rattle.script_lines.specs.declared.line_command.LineCommand.{LineCommand}
 use Rattle.script_lines.specs.declared.line_command.LineCommand.TheVariants.{Block, BlockRead, BlockWrite, Crunch, Delete, Format, Keep, Name, Petcat, Read, Rename, Save, ShowText, Undelete, Write}
@@ -81,7 +81,7 @@ abbrev pub missing_file : Option LineCommand → List Piece
 missing_file (Some Undelete) = one_piece (codes "the disk has no deleted file \"") First (codes "\"")
 missing_file command = one_piece (codes "the disk has no file \"") First (codes "\"")
 
--- the word of a line that gives the name of a file of the host
+-- the argument of a line that names a file of the host
 abbrev pub host_piece : LineParts → Option LineCommand → Piece
 host_piece parts (Some Read) = second_or_first parts
 host_piece parts command = First
@@ -149,7 +149,7 @@ wrong_host_file parts command fault =
 -- the advice about a line of a command that was refused with a status
 abbrev pub advice_by : LineParts → Option LineCommand → Status → List Piece
 advice_by parts command SyntaxError = wrong_arguments parts command
-advice_by parts command UnknownCommand = two_pieces (codes "there is no command \"") Command (codes "\"") (Text (hint_text (hint_for parts.command))) []
+advice_by parts command UnknownCommand = two_pieces (codes "there is no command \"") Command (codes "\"") (Text (hint_text parts.command)) []
 advice_by parts command LongLine = plain_pieces (codes "a line has at most 1024 characters")
 advice_by parts command BadName = wrong_name parts command
 advice_by parts command MissingArgument = missing_argument parts command

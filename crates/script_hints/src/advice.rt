@@ -3,7 +3,7 @@ ghost use Rattle.std.specs.Prelude.{◌≡◌};
 ghost use Rattle.script_hints.specs.Advice.{advice, file_piece, host_piece, missing_argument, missing_file, most_of, not_number, one_piece, piece_of, pieces, plain_pieces, piece_bytes, surplus_piece, two_pieces, usage_of, wrong_block, wrong_host_file, wrong_line, wrong_name, wrong_arguments};
 
 use crate::faults::{basic_fault, condition_text, list_fault};
-use crate::hint::Hint;
+use crate::hint::hint_text;
 use crate::line_parts::LineParts;
 use script_lines::LineCommand;
 use script_text::number::number;
@@ -89,7 +89,7 @@ impl Advice {
                 b"there is no command \"",
                 Piece::Command,
                 b"\"",
-                Piece::Text(Hint::of(parts.command).text()),
+                Piece::Text(hint_text(parts.command)),
                 b"",
             ),
             Status::LongLine => Advice::plain(b"a line has at most 1024 characters"),

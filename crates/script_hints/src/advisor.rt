@@ -21,7 +21,6 @@ ghost use Rattle.script_hints.specs.TextCause.{IsCauseLine, MaySay};
 use crate::advice::Advice;
 use crate::found::{default_name, file_count};
 use crate::help::ROWS;
-use crate::hint::Hint;
 use crate::kept::{Kept, is_unsaved, kept_after};
 use crate::leaving::keep_session;
 use crate::line_parts::LineParts;
@@ -316,7 +315,7 @@ fn cause_line<H: Host>(
 /// Whether a line asks which commands there are.
 fn asks_for_help(line: &HeldLine, status: &Status) -> bool {
     match *status {
-        Status::UnknownCommand => matches!(Hint::of(LineParts::of(line).command), Hint::Help),
+        Status::UnknownCommand => matches!(LineParts::of(line).command, "help" | "?"),
         _ => false,
     }
 }

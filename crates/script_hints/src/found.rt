@@ -8,8 +8,8 @@ use std::alloc::Global;
 
 /// The name of the first file that an argument of a line finds, in text form, if there is one, and
 /// memory for it: `read` stores by default in the host file with this name.
-pub(crate) fn default_name(alloc: Global, image: &Image, word: &[u8]) -> Option<Vec<u8>> {
-    let Ok(bytes) = from_text(alloc, word) else {
+pub(crate) fn default_name(alloc: Global, image: &Image, argument: &[u8]) -> Option<Vec<u8>> {
+    let Ok(bytes) = from_text(alloc, argument) else {
         return None;
     };
     let Ok(pattern) = Pattern::new(bytes.as_slice()) else {
@@ -31,19 +31,19 @@ pub(crate) struct Found<'a> {
     pub(crate) entry: Option<Entry<'a>>,
     /// The first file whose name is the argument in other letters.
     pub(crate) in_other_letters: Option<Entry<'a>>,
-    /// The first deleted file whose name is the word.
+    /// The first deleted file whose name is the argument.
     pub(crate) deleted: Option<Entry<'a>>,
 }
 
 impl<'a> Found<'a> {
     /// Finds the files of a disk that an argument may mean; no file if there is no memory.
-    pub(crate) fn of(alloc: Global, image: &'a Image, word: &[u8]) -> Found<'a> {
+    pub(crate) fn of(alloc: Global, image: &'a Image, argument: &[u8]) -> Found<'a> {
         let nothing = Found {
             entry: None,
             in_other_letters: None,
             deleted: None,
         };
-        let Ok(bytes) = from_text(alloc, word) else {
+        let Ok(bytes) = from_text(alloc, argument) else {
             return nothing;
         };
         let Ok(pattern) = Pattern::new(bytes.as_slice()) else {

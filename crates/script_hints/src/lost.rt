@@ -91,11 +91,11 @@ fn loss_of(alloc: Global, name: &[u8], image: &Image) -> Option<Loss> {
     found
 }
 
-/// The part of a word before its first comma.
-fn before_comma(word: &[u8]) -> &[u8] {
-    match word.iter().position(|byte| *byte == b',') {
-        Some(comma) => &word[..comma],
-        None => word,
+/// The part of an argument before its first comma.
+fn before_comma(argument: &[u8]) -> &[u8] {
+    match argument.iter().position(|byte| *byte == b',') {
+        Some(comma) => &argument[..comma],
+        None => argument,
     }
 }
 

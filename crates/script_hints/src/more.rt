@@ -2,7 +2,7 @@
 //! nothing was deleted, what is gone, and the file of the host that may be in the way.
 
 use crate::found::{Found, default_name};
-use crate::hint::Hint;
+use crate::hint::hint_for;
 use crate::line_parts::LineParts;
 use crate::near::near_command;
 use d64_files::Entry;
@@ -25,7 +25,7 @@ pub(crate) fn more_about(
     let mut line = Vec::new(alloc);
     let pushed = match (LineCommand::named(parts.command), *status) {
         (_, Status::SyntaxError) if parts.count == 0 => push_odd(&mut line, text),
-        (_, Status::UnknownCommand) if matches!(Hint::of(parts.command), Hint::Unknown) => {
+        (_, Status::UnknownCommand) if hint_for(parts.command).is_none() => {
             push_near(&mut line, near_command(parts.command.as_bytes()))
         }
         (Some(LineCommand::Undelete), Status::FileNotFound) => Ok(()),

@@ -1,3 +1,4 @@
+pub mod Finding
 pub mod LineCommands
 pub mod Acts
 pub mod BasicActs

@@ -83,9 +83,9 @@ ask what = Then what Give
 -- the bytes of arguments in text form, from left to right
 abbrev pub each_text : (Bytes → Bool) → List Bytes → Act (List Bytes)
 each_text test [] = Give []
-each_text test (word ∷ words) = do
-  bytes ← ask (Text test word)
-  more ← each_text test words
+each_text test (argument ∷ arguments) = do
+  bytes ← ask (Text test argument)
+  more ← each_text test arguments
   Give (bytes ∷ more)
 
 -- the response to an accepted line, and the history after it
@@ -95,7 +95,7 @@ pub record Ending : Type 0 where
 
 -- an argument is the text form of bytes that pass a test
 abbrev pub IsSpelled : (Bytes → Bool) → Bytes → Bytes → Type 0
-IsSpelled test word bytes = IsTextOf bytes word × (test bytes ≡ true)
+IsSpelled test argument bytes = IsTextOf bytes argument × (test bytes ≡ true)
 
 -- what a host can return for a fetch, always bytes, and what it exposes then
 pub record FetchesFile (old : HostState) (name : Bytes) (limit : ℕ) (fetched : Result Bytes HostFault) (new : HostState) : Type 0 where
@@ -121,8 +121,8 @@ bytes_given bytes (Err fault) = Err (status_of_fault fault)
 
 -- what a call can give, and what the host exposes then
 abbrev pub CallGives : Call → HostState → Result Bytes Status → HostState → Type 0
-CallGives (Text test word) old (Ok bytes) new = IsSpelled test word bytes × (new ≡ old)
-CallGives (Text test word) old (Err status) new = (status ≡ BadName) × ((bytes : Bytes) → IsSpelled test word bytes → ⊥) × (new ≡ old)
+CallGives (Text test argument) old (Ok bytes) new = IsSpelled test argument bytes × (new ≡ old)
+CallGives (Text test argument) old (Err status) new = (status ≡ BadName) × ((bytes : Bytes) → IsSpelled test argument bytes → ⊥) × (new ≡ old)
 CallGives (Fetch name limit) old given new =
     (fetched : Result Bytes HostFault) × FetchesFile old name limit fetched new × (given ≡ bytes_given (λ bytes. bytes) fetched)
 CallGives (Store name bytes) old given new =

@@ -7,24 +7,24 @@ use Rattle.script_text.specs.declared.status.Status.TheVariants.{SyntaxError, Mi
 
 abbrev pub no_argument : List Bytes → Act (Unit {0})
 no_argument [] = Give tt
-no_argument words = Refuse SyntaxError
+no_argument arguments = Refuse SyntaxError
 
 abbrev pub one_argument : List Bytes → Act Bytes
 one_argument [] = Refuse MissingArgument
-one_argument (word ∷ []) = Give word
-one_argument words = Refuse SyntaxError
+one_argument (argument ∷ []) = Give argument
+one_argument arguments = Refuse SyntaxError
 
 abbrev pub at_most_one : List Bytes → Act (Option Bytes)
 at_most_one [] = Give None
-at_most_one (word ∷ []) = Give (Some word)
-at_most_one words = Refuse SyntaxError
+at_most_one (argument ∷ []) = Give (Some argument)
+at_most_one arguments = Refuse SyntaxError
 
 -- an argument, and those after it as they are read
 abbrev pub argument_and : {A : Type 0} → (List Bytes → Act A) → List Bytes → Act (Bytes × A)
 argument_and others [] = Refuse MissingArgument
-argument_and others (word ∷ words) = others words >>= (λ more. Give (word, more))
+argument_and others (argument ∷ arguments) = others arguments >>= (λ more. Give (argument, more))
 
 -- 1 to 512 arguments
 abbrev pub some_arguments : List Bytes → Act (List Bytes)
 some_arguments [] = Refuse MissingArgument
-some_arguments words = if nat_le (length words) 512 then Give words else Refuse SyntaxError
+some_arguments arguments = if nat_le (length arguments) 512 then Give arguments else Refuse SyntaxError

@@ -26,14 +26,14 @@ items (Err fault) = Err fault
 -- an argument was read: the bytes that it stands for, which pass a test; or it stands for no such
 -- bytes, or memory was out
 abbrev pub Reads : (Bytes → Bool) → Bytes → Result Bytes Status → Type 0
-Reads test word (Ok bytes) = IsSpelled test word bytes
-Reads test word (Err status) =
-    ((status ≡ BadName) × ((bytes : Bytes) → IsSpelled test word bytes → ⊥)) ⊎ (status ≡ OutOfMemory)
+Reads test argument (Ok bytes) = IsSpelled test argument bytes
+Reads test argument (Err status) =
+    ((status ≡ BadName) × ((bytes : Bytes) → IsSpelled test argument bytes → ⊥)) ⊎ (status ≡ OutOfMemory)
 
 -- arguments were read from left to right: the bytes that each stands for, which pass a test; or
 -- some were, and the next was not
 abbrev pub ReadsEach : (Bytes → Bool) → List Bytes → Result (List Bytes) Status → Type 0
-ReadsEach test words (Ok texts) = AllZip (IsSpelled test) words texts
-ReadsEach test words (Err status) =
-    (before : List Bytes) × (texts : List Bytes) × (word : Bytes) × (more : List Bytes)
-    × (words ≡ before ++ word ∷ more) × AllZip (IsSpelled test) before texts × Reads test word (Err status)
+ReadsEach test arguments (Ok texts) = AllZip (IsSpelled test) arguments texts
+ReadsEach test arguments (Err status) =
+    (before : List Bytes) × (texts : List Bytes) × (argument : Bytes) × (more : List Bytes)
+    × (arguments ≡ before ++ argument ∷ more) × AllZip (IsSpelled test) before texts × Reads test argument (Err status)

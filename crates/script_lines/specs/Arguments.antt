@@ -17,11 +17,11 @@ use Rattle.script_text.specs.declared.status.Status.TheVariants.{SyntaxError, Ba
 
 -- the name of a host file: 1 to 255 bytes
 unfoldable pub host_in : Bytes → Result Bytes Status
-host_in word = if nat_lt 0 (length word) && nat_le (length word) 255 then Ok word else Err BadName
+host_in argument = if nat_lt 0 (length argument) && nat_le (length argument) 255 then Ok argument else Err BadName
 
 -- the number in an argument
 unfoldable pub number_in : Bytes → Result ℕ Status
-number_in word = ok_or (number_of word) SyntaxError
+number_in argument = ok_or (number_of argument) SyntaxError
 
 -- the block of a track and sector, if both are numbers and the image has it
 abbrev pub block_by : Disk → Result ℕ Status → Result ℕ Status → Result ℕ Status
@@ -40,7 +40,7 @@ status_of_text fault = BadName
 
 -- an argument split in two at its first comma
 unfoldable pub at_comma : Bytes → Option (Bytes × Bytes)
-at_comma word = option_map (λ place. (take place word, drop (place + 1) word)) (position (λ byte. byte == 44) word)
+at_comma argument = option_map (λ place. (take place argument, drop (place + 1) argument)) (position (λ byte. byte == 44) argument)
 
 -- whether bytes can be a disk's id: two, both allowed in names
 abbrev pub can_be_id : Bytes → Bool
@@ -52,25 +52,25 @@ letters_of_kinds = (codes "p", Prg) ∷ (codes "s", Seq) ∷ (codes "u", Usr) �
 
 -- the kind of a letter
 abbrev pub kind_of_letter : Bytes → Option Kind
-kind_of_letter word = option_map (λ row. row.1) (find (λ row. bytes_eq word row.0) letters_of_kinds)
+kind_of_letter argument = option_map (λ row. row.1) (find (λ row. bytes_eq argument row.0) letters_of_kinds)
 
 -- a name, and the kind of a letter; PRG without one
 abbrev pub with_kind : Bytes → Option (Bytes × Bytes) → Result (Bytes × Kind) Status
-with_kind word None = Ok (word, Prg)
-with_kind word (Some parts) = ok_or (option_map (λ kind. (parts.0, kind)) (kind_of_letter parts.1)) SyntaxError
+with_kind argument None = Ok (argument, Prg)
+with_kind argument (Some parts) = ok_or (option_map (λ kind. (parts.0, kind)) (kind_of_letter parts.1)) SyntaxError
 
 -- a name, and a kind after the first comma; PRG without one
 abbrev pub name_and_kind_in : Bytes → Result (Bytes × Kind) Status
-name_and_kind_in word = with_kind word (at_comma word)
+name_and_kind_in argument = with_kind argument (at_comma argument)
 
 -- what follows an argument's last `/`, or all of it
 unfoldable pub after_slash : Bytes → Bytes
-after_slash word = after_last (λ byte. byte == 47) word
+after_slash argument = after_last (λ byte. byte == 47) argument
 
 -- a new file's name: an argument, or by default its host file's without folders
-abbrev pub name_word : Bytes → Option Bytes → Bytes
-name_word host word = unwrap_or word (after_slash host)
+abbrev pub new_name : Bytes → Option Bytes → Bytes
+new_name host argument = unwrap_or argument (after_slash host)
 
 -- a new file's name and kind, by its argument, or by default its host file's own name and PRG
 abbrev pub name_and_kind_of : Bytes → Option Bytes → Result (Bytes × Kind) Status
-name_and_kind_of host word = option_map_or name_and_kind_in word (Ok (after_slash host, Prg))
+name_and_kind_of host argument = option_map_or name_and_kind_in argument (Ok (after_slash host, Prg))

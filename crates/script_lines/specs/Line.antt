@@ -14,7 +14,7 @@ use Rattle.d64_files.specs.Pattern.{is_pattern}
 use Rattle.d64_files.specs.declared.kind.Kind.TheVariants.{Prg}
 use Rattle.script_text.specs.Words.{words_of_line}
 use Rattle.petscii.specs.Spelling.{spelling}
-use Rattle.script_lines.specs.Arguments.{host_in, block_argument, at_comma, can_be_id, name_word, name_and_kind_in, name_and_kind_of}
+use Rattle.script_lines.specs.Arguments.{host_in, block_argument, at_comma, can_be_id, new_name, name_and_kind_in, name_and_kind_of}
 use Rattle.script_lines.specs.FoundFile.{found_name, found_content, can_name_file}
 use Rattle.script_lines.specs.FileText.{typed_text}
 use Rattle.script_lines.specs.HistoryText.{history_text}
@@ -114,22 +114,22 @@ write_program history name text = do
 
 -- `crunch`: writes a BASIC text of the host as a program, by default under its own name
 abbrev pub crunch_act : History → Bytes × Option Bytes → Act Ending
-crunch_act history (host, word) = do
+crunch_act history (host, argument) = do
   source ← value_or_refusal (host_in host)
-  name ← ask (Text is_name (name_word host word))
+  name ← ask (Text is_name (new_name host argument))
   basic ← ask (Fetch source host_file_limit)
   write_program history name basic
 
 -- `delete`: deletes the files that patterns match
 abbrev pub delete_act : History → List Bytes → Act Ending
-delete_act history words = do
-  patterns ← each_text is_pattern words
+delete_act history arguments = do
+  patterns ← each_text is_pattern arguments
   run history (changes.Delete patterns)
 
 -- `format`: makes the disk an empty one, with the name and id in one argument
 abbrev pub format_act : History → Bytes → Act Ending
-format_act history word = do
-  parts ← value_or_refusal (ok_or (at_comma word) SyntaxError)
+format_act history argument = do
+  parts ← value_or_refusal (ok_or (at_comma argument) SyntaxError)
   name ← ask (Text is_name parts.0)
   id ← ask (Text can_be_id parts.1)
   run history (changes.Format name id)
@@ -163,16 +163,16 @@ show_program history pattern = do
 
 -- `name`: gives the disk another name, and another id if one follows a comma
 abbrev pub name_parts : History → Bytes → Option (Bytes × Bytes) → Act Ending
-name_parts history word None = do
-  name ← ask (Text is_name word)
+name_parts history argument None = do
+  name ← ask (Text is_name argument)
   run history (changes.Name name None)
-name_parts history word (Some parts) = do
+name_parts history argument (Some parts) = do
   name ← ask (Text is_name parts.0)
   id ← ask (Text can_be_id parts.1)
   run history (changes.Name name (Some id))
 
 abbrev pub name_act : History → Bytes → Act Ending
-name_act history word = name_parts history word (at_comma word)
+name_act history argument = name_parts history argument (at_comma argument)
 
 -- `petcat`: shows a BASIC program as text
 abbrev pub petcat_act : History → Bytes → Act Ending
@@ -238,8 +238,8 @@ type_act history name = do
 
 -- `undelete`: brings back a deleted file, by its name and kind
 abbrev pub undelete_act : History → Bytes → Act Ending
-undelete_act history word = do
-  file ← value_or_refusal (name_and_kind_in word)
+undelete_act history argument = do
+  file ← value_or_refusal (name_and_kind_in argument)
   name ← ask (Text is_name file.0)
   run history (changes.Undelete name file.1)
 
@@ -255,9 +255,9 @@ validate_act history = run history changes.Validate
 
 -- `write`: writes a host file to the disk, by default under its own name and as PRG
 abbrev pub write_act : History → Bytes × Option Bytes → Act Ending
-write_act history (host, word) = do
+write_act history (host, argument) = do
   source ← value_or_refusal (host_in host)
-  file ← value_or_refusal (name_and_kind_of host word)
+  file ← value_or_refusal (name_and_kind_of host argument)
   name ← ask (Text is_name file.0)
   bytes ← ask (Fetch source host_file_limit)
   run history (changes.Write name file.1 bytes)

@@ -13,8 +13,8 @@ abbrev pub act_of : Option Bytes → History → Line → Act Ending
 act_of home history (Block track sector) = block_act history (track.now, sector.now)
 act_of home history (BlockRead host track sector) = block_read_act history (host.now, (track.now, sector.now))
 act_of home history (BlockWrite host track sector) = block_write_act history (host.now, (track.now, sector.now))
-act_of home history (Crunch host name) = crunch_act history (host.now, option_map (λ word. word.now) name)
-act_of home history (Delete patterns) = delete_act history (map (λ word. word.now) patterns.now)
+act_of home history (Crunch host name) = crunch_act history (host.now, option_map (λ argument. argument.now) name)
+act_of home history (Delete patterns) = delete_act history (map (λ argument. argument.now) patterns.now)
 act_of home history (Format name_and_id) = format_act history name_and_id.now
 act_of home history ListHistory = history_act history
 act_of home history (Keep host) = keep_act history host.now
@@ -22,15 +22,15 @@ act_of home history ListDirectory = list_act history
 act_of home history (Name name_and_id) = name_act history name_and_id.now
 act_of home history (Petcat name) = petcat_act history name.now
 act_of home history Quit = quit_act history
-act_of home history (Read name host) = read_act history (name.now, option_map (λ word. word.now) host)
+act_of home history (Read name host) = read_act history (name.now, option_map (λ argument. argument.now) host)
 act_of home history Redo = redo_act history
 act_of home history (Rename old new) = rename_act history (old.now, new.now)
-act_of home history (Save host) = save_act home history (option_map (λ word. word.now) host)
+act_of home history (Save host) = save_act home history (option_map (λ argument. argument.now) host)
 act_of home history (ShowText name) = type_act history name.now
 act_of home history (Undelete name_and_kind) = undelete_act history name_and_kind.now
 act_of home history Undo = undo_act history
 act_of home history Validate = validate_act history
-act_of home history (Write host name) = write_act history (host.now, option_map (λ word. word.now) name)
+act_of home history (Write host name) = write_act history (host.now, option_map (λ argument. argument.now) name)
 
 -- the act of a line that was read, or the status that refuses its arguments
 abbrev pub act_of_result : Option Bytes → History → Result Line Status → Act Ending
@@ -39,5 +39,5 @@ act_of_result home history (Err status) = Refuse status
 
 -- arguments as they were read, each as its bytes, or the status that refuses them
 abbrev pub arguments_or_refusal : {A B : Type 0} → (A → B) → Result A Status → Act B
-arguments_or_refusal bytes (Ok words) = Give (bytes words)
+arguments_or_refusal bytes (Ok arguments) = Give (bytes arguments)
 arguments_or_refusal bytes (Err status) = Refuse status

@@ -102,7 +102,7 @@ impl<'a> Line<'a> {
     /// Reads a command and its arguments. The command is in small letters, and must have as many
     /// arguments as it takes.
     pub fn of(words: &'a [&'a str]) -> Result<Line<'a>, Status>
-        ensures { (home : Option Bytes) (history : History) → act_of_result home history result ≡ act_of_words home history (map (λ word. word.now) words.now) }
+        ensures { (home : Option Bytes) (history : History) → act_of_result home history result ≡ act_of_words home history (map (λ argument. argument.now) words.now) }
     {
         let Some((name, arguments)) = words.split_first() else {
             return Err(Status::UnknownCommand);
@@ -116,7 +116,7 @@ impl<'a> Line<'a> {
 
 /// Reads the arguments of a command.
 fn with_arguments<'a>(command: LineCommand, given: &'a [&'a str]) -> Result<Line<'a>, Status>
-    ensures { (home : Option Bytes) (history : History) → act_of_result home history result ≡ act_for home history command (map (λ word. word.now) given.now) }
+    ensures { (home : Option Bytes) (history : History) → act_of_result home history result ≡ act_for home history command (map (λ argument. argument.now) given.now) }
 {
     match command {
         LineCommand::Block => two(given).map(|(track, sector)| Line::Block { track, sector }),
@@ -153,7 +153,7 @@ fn with_arguments<'a>(command: LineCommand, given: &'a [&'a str]) -> Result<Line
 
 /// A line whose command takes no arguments, if it has none.
 fn alone<'a>(line: Line<'a>, given: &[&str]) -> Result<Line<'a>, Status>
-    ensures { (home : Option Bytes) (history : History) → act_of_result home history result ≡ alone (map (λ word. word.now) given.now) (act_of home history line.entry) }
+    ensures { (home : Option Bytes) (history : History) → act_of_result home history result ≡ alone (map (λ argument. argument.now) given.now) (act_of home history line.entry) }
 {
     match given {
         [] => Ok(line),
@@ -163,18 +163,18 @@ fn alone<'a>(line: Line<'a>, given: &[&str]) -> Result<Line<'a>, Status>
 
 /// Exactly one argument.
 fn one<'a>(given: &[&'a str]) -> Result<&'a str, Status>
-    ensures { arguments_or_refusal (λ word. word.now) result ≡ one_argument (map (λ word. word.now) given.now) }
+    ensures { arguments_or_refusal (λ argument. argument.now) result ≡ one_argument (map (λ argument. argument.now) given.now) }
 {
     match given {
         [] => Err(Status::MissingArgument),
-        [word] => Ok(word),
+        [argument] => Ok(argument),
         _ => Err(Status::SyntaxError),
     }
 }
 
 /// Exactly two arguments.
 fn two<'a>(given: &[&'a str]) -> Result<(&'a str, &'a str), Status>
-    ensures { arguments_or_refusal (λ pair. (pair.0.now, pair.1.now)) result ≡ argument_and one_argument (map (λ word. word.now) given.now) }
+    ensures { arguments_or_refusal (λ pair. (pair.0.now, pair.1.now)) result ≡ argument_and one_argument (map (λ argument. argument.now) given.now) }
 {
     match given {
         [] | [_] => Err(Status::MissingArgument),
@@ -185,7 +185,7 @@ fn two<'a>(given: &[&'a str]) -> Result<(&'a str, &'a str), Status>
 
 /// Exactly three arguments.
 fn three<'a>(given: &[&'a str]) -> Result<(&'a str, &'a str, &'a str), Status>
-    ensures { arguments_or_refusal (λ three. (three.0.now, (three.1.now, three.2.now))) result ≡ argument_and (argument_and one_argument) (map (λ word. word.now) given.now) }
+    ensures { arguments_or_refusal (λ three. (three.0.now, (three.1.now, three.2.now))) result ≡ argument_and (argument_and one_argument) (map (λ argument. argument.now) given.now) }
 {
     match given {
         [] | [_] | [_, _] => Err(Status::MissingArgument),
@@ -196,18 +196,18 @@ fn three<'a>(given: &[&'a str]) -> Result<(&'a str, &'a str, &'a str), Status>
 
 /// No argument, or one.
 fn at_most_one<'a>(given: &[&'a str]) -> Result<Option<&'a str>, Status>
-    ensures { arguments_or_refusal (option_map (λ word. word.now)) result ≡ at_most_one (map (λ word. word.now) given.now) }
+    ensures { arguments_or_refusal (option_map (λ argument. argument.now)) result ≡ at_most_one (map (λ argument. argument.now) given.now) }
 {
     match given {
         [] => Ok(None),
-        [word] => Ok(Some(word)),
+        [argument] => Ok(Some(argument)),
         _ => Err(Status::SyntaxError),
     }
 }
 
 /// One argument, and perhaps another.
 fn one_or_two<'a>(given: &[&'a str]) -> Result<(&'a str, Option<&'a str>), Status>
-    ensures { arguments_or_refusal (λ pair. (pair.0.now, option_map (λ word. word.now) pair.1)) result ≡ argument_and at_most_one (map (λ word. word.now) given.now) }
+    ensures { arguments_or_refusal (λ pair. (pair.0.now, option_map (λ argument. argument.now) pair.1)) result ≡ argument_and at_most_one (map (λ argument. argument.now) given.now) }
 {
     match given {
         [] => Err(Status::MissingArgument),
@@ -219,7 +219,7 @@ fn one_or_two<'a>(given: &[&'a str]) -> Result<(&'a str, Option<&'a str>), Statu
 
 /// One argument or more, up to as many as a line has.
 fn some<'a>(given: &'a [&'a str]) -> Result<&'a [&'a str], Status>
-    ensures { arguments_or_refusal (λ some. map (λ word. word.now) some.now) result ≡ some_arguments (map (λ word. word.now) given.now) }
+    ensures { arguments_or_refusal (λ some. map (λ argument. argument.now) some.now) result ≡ some_arguments (map (λ argument. argument.now) given.now) }
 {
     match given.len() {
         0 => Err(Status::MissingArgument),

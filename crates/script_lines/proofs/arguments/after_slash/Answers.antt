@@ -10,5 +10,5 @@ unfolding after_slash
 returns-in-Some c =
     let steps = c.in-Some.ensures.steps in
     let after = (steps.2 (λ byte. byte == 47) (answers_always _ _ _ (λ f a r g called. search of_calls))).1 in
-    subst (λ (word : List _). c.in-Some.part.now ≡ after_last (λ byte. byte == 47) word) c.rsplit.ensures.rest
+    subst (λ (argument : List _). c.in-Some.part.now ≡ after_last (λ byte. byte == 47) argument) c.rsplit.ensures.rest
     (is_after_last (λ byte. byte == 47) _ _ _ _ steps.1 after)

@@ -5,5 +5,5 @@ use Rattle.script_lines.specs.Act.{IsSpelled}
 use Rattle.script_lines.proofs.arguments.patterns_in.Given as goal
 
 -- the arguments so far were read
-abbrev pub invariant-loop-word : goal.invariant-loop-word
-invariant-loop-word l = AllZip (IsSpelled is_pattern) (take l.word-index (map (λ word. word.now) l.words)) l.patterns.items
+abbrev pub invariant-loop-argument : goal.invariant-loop-argument
+invariant-loop-argument l = AllZip (IsSpelled is_pattern) (take l.argument-index (map (λ argument. argument.now) l.arguments)) l.patterns.items

@@ -4,7 +4,7 @@ use Rattle.std.specs.Str.{bytes_eq}
 use Rattle.std.proofs.lemmas.List.{at_drop_more}
 use Rattle.script_lines.specs.LineCommand.{commands, command_name}
 use Rattle.script_lines.specs.declared.line_command.LineCommand.{LineCommand}
-use Rattle.script_lines.proofs.LineCommands.{passed_over}
+use Rattle.script_lines.proofs.Finding.{passed_over}
 use Rattle.script_lines.proofs.line_command.LineCommand.named.Goals as goal
 
 -- a command with another name is passed over
@@ -14,4 +14,4 @@ loop-command-preserved c =
     let has : LineCommand → Bool = λ command. bytes_eq name (command_name command) in
     let within : c.loop-command.command-index < length commands = search rules in
     let other = ap (bytes_eq name) (sym c.name.ensures) ∙ sym c.eq.ensures ∙ c.if-eq.false in
-    passed_over has _ _ other ∙ sym (at_drop_more (find has) commands c.loop-command.command-index _ within) ∙ c.loop-command.invariant
+    sym (at_drop_more (find has) commands c.loop-command.command-index _ within ∙ passed_over has _ _ other) ∙ c.loop-command.invariant
