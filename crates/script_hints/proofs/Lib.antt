@@ -1,2 +1,2 @@
-pub mod Writings
 mod LineStarts
+mod Remarks

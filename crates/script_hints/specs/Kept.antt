@@ -1,11 +1,12 @@
 -- What the host has of a session, and when changes are not saved.
-use Rattle.std.specs.Prelude.{Bool, true, not, if◌then◌else◌, ◌==◌, length, Option, Some, None, option_map, codes}
+use Rattle.std.specs.Prelude.{◌≡◌, ◌⊎◌, [], Bool, true, not, if◌then◌else◌, ◌==◌, length, Option, Some, None, option_map, codes}
 use Rattle.std.specs.Option.{option_eq}
 use Rattle.std.specs.Str.{bytes_eq}
 use Rattle.sha2.specs.Sha256.{sha256}
 use Rattle.d64_image.specs.Disk.{Bytes, Disk}
 use Rattle.d64_image.specs.Image.{bytes_of}
-use Rattle.script_hints.specs.LineParts.{LineParts}
+use Rattle.script_advice.specs.Found.{IsDefaultName}
+use Rattle.script_advice.specs.LineParts.{LineParts}
 use Rattle.script_lines.specs.LineCommand.{command_named}
 use Rattle.script_lines.specs.declared.line_command.LineCommand.{LineCommand}
 use Rattle.script_lines.specs.declared.line_command.LineCommand.TheVariants.{BlockRead, Keep, Read, Save}
@@ -51,6 +52,11 @@ effect_by home found parts command = Nothing
 -- the effect of an accepted line with these arguments
 abbrev pub effect_of : Option Bytes → Bytes → LineParts → Effect
 effect_of home found parts = effect_by home found parts (command_named parts.command)
+
+-- the name under which `read` stores by default a file that this argument finds; empty if there is
+-- no such file, or memory was out
+abbrev pub MayBeDefault : Disk → Bytes → Bytes → Type 0
+MayBeDefault image argument found = IsDefaultName image argument (Some found) ⊎ (found ≡ [])
 
 -- the line that says that changes are not saved
 abbrev pub unsaved_line : Bytes

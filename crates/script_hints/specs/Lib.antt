@@ -1,12 +1,7 @@
-pub mod LineParts
-pub mod Hint
-pub mod Faults
-pub mod Advice
-pub mod Lost
-pub mod TextCause
 pub mod Kept
 pub mod LineStart
 pub mod Prompt
 pub mod Leaving
 pub mod Ear
 pub mod Unfit
+pub mod Past

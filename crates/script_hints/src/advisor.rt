@@ -1,40 +1,37 @@
 //! The observer that explains refused lines to a person, and what happens to changes that are not
 //! saved.
-//! saved.
-ghost use Rattle.std.specs.Prelude.{◌≡◌, ◌⊎◌, ℕ, List, [], Some, None, IfSome, option_copied, if◌then◌else◌, ◌++◌, ◌&&◌, ◌||◌, codes, not, false, true};
+ghost use Rattle.std.specs.Prelude.{◌≡◌, ◌⊎◌, ℕ, List, [], Some, None, IfSome, option_copied, if◌then◌else◌, ◌++◌, ◌&&◌, ◌||◌, ◌-◌, codes, length, not, take, false, true};
 ghost use Rattle.host_storage.specs.Files.{HostState};
 ghost use Rattle.script_text.specs.HeldLine.{HoldsText};
 ghost use Rattle.host_storage.specs.Output.{Writes};
 ghost use Rattle.program_console.specs.Outside.{account_at};
+ghost use Rattle.script_text.specs.RawLines.{line_limit};
 ghost use Rattle.script_text.specs.Status.{is_accepted};
 ghost use Rattle.d64_history.specs.History.{present_image};
-ghost use Rattle.script_hints.specs.Advice.{advice, advice_text, pieces};
 ghost use Rattle.std.specs.Option.{option_map_or};
 ghost use Rattle.script_hints.specs.LineStart.{line_start};
-ghost use Rattle.script_hints.specs.Ear.{MayStart, shown_raw_text, stops_at_refusal};
-ghost use Rattle.script_hints.specs.Kept.{effect_of, is_unsaved, kept_after, kept_in, unsaved_line};
+ghost use Rattle.script_hints.specs.Ear.{MayRemark, MayStart, asks_for_help, shown_raw_text, stops_at_refusal};
+ghost use Rattle.script_hints.specs.Kept.{MayBeDefault, effect_of, is_unsaved, kept_after, kept_in, unsaved_line};
 ghost use Rattle.script_hints.specs.Leaving.{IsKeptUnder};
+ghost use Rattle.script_hints.specs.Past.{change_line, command_of, known_line, redone_line, undone_line};
 ghost use Rattle.script_hints.specs.Prompt.{name_in_prompt, prompt};
-ghost use Rattle.script_hints.specs.LineParts.{parts_of_line};
-ghost use Rattle.script_hints.specs.TextCause.{IsCauseLine, MaySay};
+ghost use Rattle.script_lines.specs.declared.line_command.LineCommand.TheVariants.{Quit, Redo, Undo};
+ghost use Rattle.script_advice.specs.LineParts.{parts_of_line};
+ghost use Rattle.script_advice.specs.Found.{file_count};
+ghost use Rattle.script_advice.specs.Refusal.{MaySay};
 
-use crate::advice::Advice;
-use crate::found::{default_name, file_count};
 use crate::help::ROWS;
 use crate::kept::{Kept, is_unsaved, kept_after};
 use crate::leaving::keep_session;
-use crate::line_parts::LineParts;
 use crate::line_start::line_start;
-use crate::lost::lost_line;
-use crate::more::more_about;
 use crate::past::Past;
 use crate::prompt::{prompt_name, write_prompt};
-use crate::text_cause::text_line;
 use crate::unfit::unfit_line;
 use arrayvec::ArrayVec;
 use d64_image::Image;
 use d64_undo::Session;
 use host_storage::{Host, HostFault, OutputStream, WriteFault};
+use script_advice::{LineParts, default_name, file_count, remark, write_refusal};
 use script_commands::{Observer, Opening, Refusals};
 use script_lines::LineCommand;
 use script_text::held_line::HeldLine;
@@ -42,7 +39,6 @@ use script_text::raw_lines::LINE_BYTES;
 use script_text::status::Status;
 use std::alloc::Global;
 use std::io::Write;
-use std::mem;
 
 /// The line that says that no file has the last image.
 const UNSAVED: &[u8] = b"d64sh: changes are not saved\n";
@@ -166,44 +162,43 @@ impl<'w, W: Write, H: Host> Advisor<'w, W, H> {
         ensures typed { self.new.is_typed ≡ self.old.is_typed }
         ensures numbered { self.new.is_numbered ≡ self.old.is_numbered }
         ensures lines { self.new.lines ≡ self.old.lines }
-        ensures kept { (raw : List ℕ) → HoldsText line.now raw → self.old.is_typed ≡ true → is_accepted status.now ≡ true → (found : List ℕ) × (self.new.kept ≡ kept_after self.old.kept (effect_of (option_copied home.entry) found (parts_of_line raw)) image.now) }
+        ensures kept { (raw : List ℕ) → HoldsText line.now raw → self.old.is_typed ≡ true → is_accepted status.now ≡ true → (found : List ℕ) × MayBeDefault image.now (parts_of_line raw).first found × (self.new.kept ≡ kept_after self.old.kept (effect_of (option_copied home.entry) found (parts_of_line raw)) image.now) }
         ensures held { is_accepted status.now ≡ false → self.new.kept ≡ self.old.kept }
         ensures advised { (raw : List ℕ) → HoldsText line.now raw → is_accepted status.now ≡ false → (start words : List ℕ)
             × MayStart self.old.is_numbered self.old.lines (shown_raw_text raw self.old.first_bytes.items) start
-            × MaySay (H.state self.old.host) start (parts_of_line raw) status.now words
+            × MaySay (H.state self.old.host) image.now start (parts_of_line raw) status.now words
             × Writes (account_at W.contents self.old.output) (account_at W.contents self.new.output) words }
         ensures silent { is_accepted status.now ≡ true → self.new.output ≡ self.old.output }
     {
         let parts = LineParts::of(line);
         if status.is_accepted() {
             if self.is_typed {
-                let found = default_name(self.alloc, image, parts.first);
+                let found = default_name(self.alloc, image, parts.first).unwrap_or(None);
                 self.kept = kept_after(self.kept, home, bytes_of(&found, b""), &parts, image);
             }
         } else {
-            let advice = Advice::of(&parts, status);
             let start = self.start_of(line);
             let start = bytes_of(&start, b"d64sh: ");
-            let _ = match cause_line(
+            let _ = write_refusal(
                 self.alloc,
                 &mut self.host,
+                &mut self.output,
                 start,
-                parts.first,
+                &parts,
                 status,
                 image,
-            ) {
-                Some(line) => self.output.write(line.as_slice()),
-                None => write_advice(&mut self.output, start, &parts, advice),
-            };
+            );
         }
     }
 
     /// Keeps the first bytes of the line that is being read.
-    fn hold(&mut self, bytes: &[u8]) {
+    #[tactic(auto, using(std::proofs::lemmas::List::take_min))]
+    fn hold(&mut self, bytes: &[u8])
+        ensures { self.new.first_bytes.items ≡ self.old.first_bytes.items ++ take (line_limit - length self.old.first_bytes.items) bytes.now }
+    {
         let room = LINE_BYTES - self.first_bytes.len();
-        let _ = self
-            .first_bytes
-            .try_extend_from_slice(&bytes[..bytes.len().min(room)]);
+        let held = &bytes[..room.min(bytes.len())];
+        let _ = self.first_bytes.try_extend_from_slice(held);
     }
 
     /// The beginning of the explanation of a line, if lines are named by their numbers. Of a line
@@ -215,7 +210,7 @@ impl<'w, W: Write, H: Host> Advisor<'w, W, H> {
         if !self.is_numbered {
             return None;
         }
-        let text = line.text().unwrap_or(self.first_bytes.as_slice());
+        let text = text_of(line, self.first_bytes.as_slice());
         match line_start(self.alloc, self.lines, text) {
             Ok(start) => Some(start),
             Err(_) => None,
@@ -242,45 +237,47 @@ impl<'w, W: Write, H: Host> Advisor<'w, W, H> {
         let _ = self.output.write(bytes_of(&kept, UNSAVED));
     }
 
+    /// Says what else there is to say about a line that left this image, if there is memory.
+    pub fn explain(&mut self, line: &HeldLine, status: &Status, image: &Image)
+        ensures lent { self.new.output.writer.ghost_name ≡ self.old.output.writer.ghost_name }
+        ensures explained { (raw : List ℕ) → HoldsText line.now raw → (words : List ℕ) × MayRemark raw status.now image.now self.old.files words
+            × Writes (account_at W.contents self.old.output) (account_at W.contents self.new.output) words }
+        ensures files { self.new.files ≡ file_count image.now }
+    {
+        let text = text_of(line, b"");
+        let parts = LineParts::of(line);
+        let nothing = Vec::new(self.alloc);
+        let words = remark(self.alloc, text, &parts, status, image, self.files).unwrap_or(nothing);
+        let _ = self.output.write(words.as_slice());
+        self.files = file_count(image);
+    }
+
     /// Follows a session along an accepted line: its changes, of which it says which one was undone
     /// or redone, and its end.
-    fn follow(&mut self, line: &HeldLine, session: &Session)
-        ensures { self.new.output.writer.ghost_name ≡ self.old.output.writer.ghost_name }
+    pub fn follow(&mut self, line: &HeldLine, session: &Session)
+        ensures lent { self.new.output.writer.ghost_name ≡ self.old.output.writer.ghost_name }
+        ensures done { self.new.done ≡ session.now.cursor }
+        ensures undone { (raw : List ℕ) → HoldsText line.now raw → command_of raw ≡ Some Undo
+            → Writes (account_at W.contents self.old.output) (account_at W.contents self.new.output) (undone_line (known_line self.old.past session.now.cursor)) }
+        ensures redone { (raw : List ℕ) → HoldsText line.now raw → command_of raw ≡ Some Redo
+            → Writes (account_at W.contents self.old.output) (account_at W.contents self.new.output) (redone_line (known_line self.old.past self.old.done)) }
+        ensures left { (raw : List ℕ) → HoldsText line.now raw → command_of raw ≡ Some Quit → self.new.is_left ≡ true }
     {
         let before = self.done;
         self.done = session.done();
-        let mut past = mem::replace(&mut self.past, Past::new(self.alloc));
-        match LineCommand::named(LineParts::of(line).command) {
-            Some(LineCommand::Undo) => self.name_change(b"  taken back: ", past.line_of(self.done)),
-            Some(LineCommand::Redo) => self.name_change(b"  done again: ", past.line_of(before)),
+        match command_of(line) {
+            Some(LineCommand::Undo) => {
+                let undone = self.past.known_line(self.done);
+                let _ = write_change(&mut self.output, b"  taken back: ", undone);
+            }
+            Some(LineCommand::Redo) => {
+                let redone = self.past.known_line(before);
+                let _ = write_change(&mut self.output, b"  done again: ", redone);
+            }
             Some(LineCommand::Quit) => self.is_left = true,
-            _ if self.done > before => past.record(before, line.text().unwrap_or(b"")),
+            _ if self.done > before => self.past.record(before, text_of(line, b"")),
             _ => {}
         }
-        self.past = past;
-    }
-
-    /// Says which line was undone or redone.
-    fn name_change(&mut self, start: &[u8], line: Option<&[u8]>)
-        ensures { self.new.output.writer.ghost_name ≡ self.old.output.writer.ghost_name }
-    {
-        let _ = write_past(&mut self.output, start, line);
-    }
-}
-
-impl<'w, W: Write, H: Host> Advisor<'w, W, H> {
-    /// Says what else there is to say about a line that left this image.
-    fn explain(&mut self, line: &HeldLine, status: &Status, image: &Image)
-        ensures { self.new.output.writer.ghost_name ≡ self.old.output.writer.ghost_name }
-    {
-        if self.is_numbered && !status.is_accepted() {
-            return;
-        }
-        let text = line.text().unwrap_or(b"");
-        let parts = LineParts::of(line);
-        let more = more_about(self.alloc, text, &parts, status, image, self.files);
-        let _ = self.output.write(bytes_of(&more, b""));
-        self.files = file_count(image);
     }
 }
 
@@ -294,26 +291,25 @@ fn bytes_of<'a>(text: &'a Option<Vec<u8>>, other: &'a [u8]) -> &'a [u8]
     }
 }
 
-/// The line that says after this start what is found to be wrong with the text or the deleted file
-/// of this name, if something is.
-fn cause_line<H: Host>(
-    alloc: Global,
-    host: &mut H,
-    start: &[u8],
-    name: &[u8],
-    status: &Status,
-    image: &Image,
-) -> Option<Vec<u8>>
-    ensures { IfSome result (λ line. IsCauseLine (H.state host.old) start.now name.now status.now line.items) }
+/// The text of a line, or this one if it is too long.
+fn text_of<'a>(line: &'a HeldLine, other: &'a [u8]) -> &'a [u8]
+    ensures { (raw : List ℕ) → HoldsText line.now raw → result.now ≡ shown_raw_text raw other.now }
 {
-    match text_line(alloc, host, start, name, status) {
-        Some(line) => Some(line),
-        None => lost_line(alloc, start, name, status, image),
-    }
+    line.text().unwrap_or(other)
+}
+
+/// The command of a line.
+#[tactic(auto, unfolding(crate::specs::Past::command_of))]
+fn command_of(line: &HeldLine) -> Option<LineCommand>
+    ensures { (raw : List ℕ) → HoldsText line.now raw → result ≡ command_of raw }
+{
+    LineCommand::named(LineParts::of(line).command)
 }
 
 /// Whether a line asks which commands there are.
-fn asks_for_help(line: &HeldLine, status: &Status) -> bool {
+fn asks_for_help(line: &HeldLine, status: &Status) -> bool
+    ensures { (raw : List ℕ) → HoldsText line.now raw → result ≡ asks_for_help raw status.now }
+{
     match *status {
         Status::UnknownCommand => matches!(LineParts::of(line).command, "help" | "?"),
         _ => false,
@@ -370,7 +366,7 @@ impl<'w, W: Write, H: Host> Observer for Advisor<'w, W, H> {
         if asks {
             let _ = self.output.write(ROWS);
         }
-        if self.is_typed {
+        if self.is_typed && (status.is_accepted() || !self.is_numbered) {
             self.explain(line, status, session.image());
         }
         if self.is_typed && status.is_accepted() {
@@ -386,32 +382,24 @@ impl<'w, W: Write, H: Host> Observer for Advisor<'w, W, H> {
     }
 }
 
-/// Writes what is wrong with a line after the beginning of the explanation.
-fn write_advice<W: Write>(
-    output: &mut OutputStream<'_, W>,
-    start: &[u8],
-    parts: &LineParts<'_>,
-    advice: Advice,
-) -> Result<(), WriteFault>
-    ensures same { output.new.writer.ghost_name ≡ output.old.writer.ghost_name }
-    ensures either { Writes (account_at W.contents output.old) (account_at W.contents output.new) (start.now ++ advice_text parts.now (pieces advice)) }
-{
-    output.write(start)?;
-    for piece in advice.pieces.iter() {
-        output.write(piece.of(parts))?;
-    }
-    output.write(b"\n")
-}
-
-/// Writes which line was undone or redone.
-fn write_past<W: Write>(
+/// Writes which change was undone or redone: by the line that made it, unless that is lost.
+fn write_change<W: Write>(
     output: &mut OutputStream<'_, W>,
     start: &[u8],
     line: Option<&[u8]>,
 ) -> Result<(), WriteFault>
-    ensures { output.new.writer.ghost_name ≡ output.old.writer.ghost_name }
+    ensures same { output.new.writer.ghost_name ≡ output.old.writer.ghost_name }
+    ensures either { Writes (account_at W.contents output.old) (account_at W.contents output.new) (change_line start.now (option_copied line.entry)) }
 {
     output.write(start)?;
-    output.write(line.unwrap_or(b"a change whose line is not known"))?;
+    write_line(output, line.unwrap_or(b"a change whose line is not known"))
+}
+
+/// Writes a text and the line's end.
+fn write_line<W: Write>(output: &mut OutputStream<'_, W>, text: &[u8]) -> Result<(), WriteFault>
+    ensures same { output.new.writer.ghost_name ≡ output.old.writer.ghost_name }
+    ensures either { Writes (account_at W.contents output.old) (account_at W.contents output.new) (text.now ++ codes "\n") }
+{
+    output.write(text)?;
     output.write(b"\n")
 }

@@ -3,8 +3,8 @@ ghost use Rattle.std.specs.Prelude.{◌≡◌, option_copied, option_map};
 ghost use Rattle.sha2.specs.Sha256.{sha256};
 ghost use Rattle.script_hints.specs.Kept.{effect_of, is_unsaved, kept_after, kept_in, unless_replaced};
 
-use crate::line_parts::LineParts;
 use d64_image::Image;
+use script_advice::LineParts;
 use script_lines::LineCommand;
 use sha2::{Digest, Sha256};
 
@@ -54,18 +54,18 @@ pub(crate) fn kept_after(
             if parts.first.is_empty() {
                 Some(Kept::of(image, home.map(str::as_bytes)))
             } else {
-                Some(Kept::of(image, Some(parts.first)))
+                Some(Kept::of(image, Some(parts.first.as_bytes())))
             }
         }
-        Some(LineCommand::Keep) => Some(Kept::of(image, Some(parts.first))),
+        Some(LineCommand::Keep) => Some(Kept::of(image, Some(parts.first.as_bytes()))),
         Some(LineCommand::Read) => {
             if parts.second.is_empty() {
                 unless_replaced(kept, found)
             } else {
-                unless_replaced(kept, parts.second)
+                unless_replaced(kept, parts.second.as_bytes())
             }
         }
-        Some(LineCommand::BlockRead) => unless_replaced(kept, parts.first),
+        Some(LineCommand::BlockRead) => unless_replaced(kept, parts.first.as_bytes()),
         _ => kept,
     }
 }

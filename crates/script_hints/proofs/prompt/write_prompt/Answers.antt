@@ -1,6 +1,6 @@
 use Rattle.std.proofs.Common.{inr}
 use Rattle.script_hints.specs.Prompt.{prompt_mark}
-use Rattle.script_hints.proofs.Writings.{AppendsPart-more, Writes-after}
+use Rattle.script_advice.proofs.Writings.{AppendsPart-more, Writes-after}
 use Rattle.script_hints.proofs.prompt.write_prompt.Goals as goal
 
 -- the write of the name failed

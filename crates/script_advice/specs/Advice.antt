@@ -1,0 +1,180 @@
+-- What is wrong with a refused line, in plain words.
+use Rattle.std.specs.Prelude.{ℕ, Option, Some, ◌==◌, ◌-◌, nat_lt, if◌then◌else◌, List, [], ◌∷◌, ◌++◌, map, flat_map, codes}
+use Rattle.std.specs.Option.{option_map_or}
+use Rattle.d64_image.specs.Disk.{Bytes}
+use Rattle.script_text.specs.Number.{number_of}
+use Rattle.script_text.specs.declared.status.Status.{Status}
+use Rattle.script_text.specs.declared.status.Status.TheVariants.{Done, FilesScratched, SyntaxError, UnknownCommand, LongLine, BadName, MissingArgument, WriteFileOpen, FileNotFound, FileExists, FileTypeMismatch, IllegalBlock, DirectoryError, DiskFull, HostFile, NothingToUndo, NothingToRedo, NotOneBlock, BasicText, NotBasic, FileLost, OutOfMemory}
+use Rattle.script_advice.specs.LineParts.{LineParts}
+use Rattle.script_lines.specs.LineCommand.{command_named, most_arguments, usage}
+use Rattle.script_advice.specs.Hint.{hint_text}
+use Rattle.script_advice.specs.Faults.{basic_fault, condition_text, list_fault}
+use Rattle.script_lines.specs.declared.line_command.LineCommand.{LineCommand}
+use Rattle.script_lines.specs.declared.line_command.LineCommand.TheVariants.{Block, BlockRead, BlockWrite, Crunch, Delete, Format, Keep, Name, Petcat, Read, Rename, Save, ShowText, Undelete, Write}
+use Rattle.script_advice.specs.declared.advice.Advice.{Advice}
+use Rattle.script_advice.specs.declared.advice.Piece.{Piece as CodePiece}
+use Rattle.script_advice.specs.declared.advice.Piece.TheVariants as code
+
+-- a piece of the advice: a text, or an argument of the line
+pub data Piece : Type 0 where
+  Text : Bytes → Piece
+  Command : Piece
+  First : Piece
+  Second : Piece
+  Third : Piece
+  Fourth : Piece
+
+-- a piece of the code as one of the definitions
+abbrev pub piece_of : CodePiece → Piece
+piece_of (code.Text text) = Text text.now
+piece_of code.Command = Command
+piece_of code.First = First
+piece_of code.Second = Second
+piece_of code.Third = Third
+piece_of code.Fourth = Fourth
+
+abbrev pub pieces : Advice → List Piece
+pieces advice = map piece_of advice.pieces
+
+-- the bytes of a piece, by the arguments of the line
+abbrev pub piece_bytes : LineParts → Piece → Bytes
+piece_bytes parts (Text text) = text
+piece_bytes parts Command = parts.command
+piece_bytes parts First = parts.first
+piece_bytes parts Second = parts.second
+piece_bytes parts Third = parts.third
+piece_bytes parts Fourth = parts.fourth
+
+-- two pieces among three texts
+abbrev pub two_pieces : Bytes → Piece → Bytes → Piece → Bytes → List Piece
+two_pieces before piece between other after = Text before ∷ piece ∷ Text between ∷ other ∷ Text after ∷ []
+
+-- a piece between two texts
+abbrev pub one_piece : Bytes → Piece → Bytes → List Piece
+one_piece before piece after = two_pieces before piece after (Text []) []
+
+-- only a text
+abbrev pub plain_pieces : Bytes → List Piece
+plain_pieces text = two_pieces text (Text []) [] (Text []) []
+
+-- how the line of a command is typed; without one, where the commands are listed
+abbrev pub usage_of : Option LineCommand → Bytes
+usage_of command = option_map_or usage command (codes "d64sh help shell lists the commands")
+
+-- the most arguments that a command takes, if there is one
+abbrev pub most_of : Option LineCommand → ℕ
+most_of command = option_map_or most_arguments command 0
+
+-- the second argument of a line, or the first if there is no second, counting the command too
+abbrev pub second_or_first : LineParts → Piece
+second_or_first parts = if nat_lt 2 parts.count then Second else First
+
+-- the argument of a line that is the name of a file on the disk
+abbrev pub file_piece : LineParts → Option LineCommand → Piece
+file_piece parts (Some Rename) = Second
+file_piece parts (Some Crunch) = second_or_first parts
+file_piece parts (Some Write) = second_or_first parts
+file_piece parts command = First
+
+-- a line whose file isn't there
+abbrev pub missing_file : Option LineCommand → List Piece
+missing_file (Some Undelete) = one_piece (codes "the disk has no deleted file \"") First (codes "\"")
+missing_file command = one_piece (codes "the disk has no file \"") First (codes "\"")
+
+-- the argument of a line that names a file of the host
+abbrev pub host_piece : LineParts → Option LineCommand → Piece
+host_piece parts (Some Read) = second_or_first parts
+host_piece parts command = First
+
+-- the first argument of a line that is one too many, for a command that takes at most n
+abbrev pub surplus_piece : ℕ → Piece
+surplus_piece most = if most == 0 then First else if most == 1 then Second else if most == 2 then Third else Fourth
+
+-- the first of the arguments for a track and a sector that is no number
+abbrev pub not_number : Bytes → Piece → Piece → Piece
+not_number track first second = option_map_or (λ _. second) (number_of track) first
+
+-- a line with the right number of arguments, one of which its command does not take
+abbrev pub wrong_line : LineParts → Option LineCommand → List Piece
+wrong_line parts (Some Block) = one_piece (codes "\"") (not_number parts.first First Second) (codes "\" is not a number from 0 to 255: block T S")
+wrong_line parts (Some BlockRead) = one_piece (codes "\"") (not_number parts.second Second Third) (codes "\" is not a number from 0 to 255")
+wrong_line parts (Some BlockWrite) = one_piece (codes "\"") (not_number parts.second Second Third) (codes "\" is not a number from 0 to 255")
+wrong_line parts (Some Format) = one_piece (codes "\"") First (codes "\" has no comma between name and id: format NAME,ID")
+wrong_line parts (Some Write) = one_piece (codes "\"") Second (codes "\" does not end with a file type (p, s or u): write HOST NAME,T")
+wrong_line parts (Some Undelete) = one_piece (codes "\"") First (codes "\" does not end with a file type (p, s or u): undelete NAME,T")
+wrong_line parts command = one_piece (codes "type the line like this: ") (Text (usage_of command)) []
+
+-- a line whose arguments are not what its command takes
+abbrev pub wrong_arguments : LineParts → Option LineCommand → List Piece
+wrong_arguments parts command =
+    if parts.count == 0 then plain_pieces (codes "quotes may only enclose a whole argument, and only printable ASCII is allowed")
+    else if nat_lt (most_of command) (parts.count - 1)
+    then two_pieces (codes "\"") (surplus_piece (most_of command)) (codes "\" is one argument too many: ") (Text (usage_of command)) []
+    else wrong_line parts command
+
+-- a line in which an argument cannot be a name
+abbrev pub wrong_name : LineParts → Option LineCommand → List Piece
+wrong_name parts (Some BlockRead) = one_piece (codes "\"") First (codes "\" is not a valid name of a host file, which has 1 to 255 characters")
+wrong_name parts (Some BlockWrite) = one_piece (codes "\"") First (codes "\" is not a valid name of a host file, which has 1 to 255 characters")
+wrong_name parts (Some Keep) = one_piece (codes "\"") First (codes "\" is not a valid name of a host file, which has 1 to 255 characters")
+wrong_name parts (Some Save) = one_piece (codes "\"") First (codes "\" is not a valid name of a host file, which has 1 to 255 characters")
+wrong_name parts (Some Format) = one_piece (codes "\"") First (codes "\" is not a valid name of 1 to 16 characters and an id of 2, without * ? = : and quotes")
+wrong_name parts (Some Name) = one_piece (codes "\"") First (codes "\" is not a valid name of 1 to 16 characters, alone or with an id of 2 after a comma, without * ? = : and quotes")
+wrong_name parts (Some Petcat) = one_piece (codes "\"") First (codes "\" is not a valid name, which has 1 to 16 characters without = : , and quotes")
+wrong_name parts (Some ShowText) = one_piece (codes "\"") First (codes "\" is not a valid name, which has 1 to 16 characters without = : , and quotes")
+wrong_name parts (Some Delete) = one_piece (codes "one of the names from \"") First (codes "\" on is not valid: a name has 1 to 16 characters without = : , and quotes")
+wrong_name parts (Some Read) = two_pieces (codes "\"") First (codes "\" is not a valid name on a disk, which has 1 to 16 characters without = : , and quotes, or the host cannot have a file \"") (host_piece parts (Some Read)) (codes "\": read NAME HOST")
+wrong_name parts (Some Rename) = two_pieces (codes "\"") First (codes "\" or \"") Second (codes "\" is not a valid name on a disk, which has 1 to 16 characters without * ? = : , and quotes")
+wrong_name parts (Some Undelete) = one_piece (codes "\"") First (codes "\" does not give a valid name on a disk, which has 1 to 16 characters without * ? = : , and quotes")
+wrong_name parts command = two_pieces (codes "\"") (file_piece parts command) (codes "\" does not give a valid name on a disk, which has 1 to 16 characters without * ? = : , and quotes, or the host cannot have a file \"") First (codes "\"")
+
+-- a line in which an argument is missing
+abbrev pub missing_argument : LineParts → Option LineCommand → List Piece
+missing_argument parts (Some Save) = plain_pieces (codes "the session began without an image file, so save takes a name: save HOST")
+missing_argument parts command = one_piece (codes "an argument is missing: ") (Text (usage_of command)) []
+
+-- a line that names a block that the disk doesn't have
+abbrev pub wrong_block : LineParts → Option LineCommand → List Piece
+wrong_block parts (Some Block) = two_pieces (codes "the disk has no track ") First (codes " with a sector ") Second (codes ": sectors are numbered from 0, and there are 21 on tracks 1 to 17, 19 on 18 to 24, 18 on 25 to 30, then 17")
+wrong_block parts command = two_pieces (codes "the disk has no track ") Second (codes " with a sector ") Third (codes ": sectors are numbered from 0, and there are 21 on tracks 1 to 17, 19 on 18 to 24, 18 on 25 to 30, then 17")
+
+-- a line whose host file has the fault with this number
+abbrev pub wrong_host_file : LineParts → Option LineCommand → ℕ → List Piece
+wrong_host_file parts command fault =
+    if parts.count == 1 then plain_pieces (codes "the image file cannot be written")
+    else if fault == 1 then one_piece (codes "the host has no file \"") (host_piece parts command) (codes "\"")
+    else if fault == 3 then one_piece (codes "the file \"") (host_piece parts command) (codes "\" has more than 1048576 bytes")
+    else one_piece (codes "the file \"") (host_piece parts command) (codes "\" cannot be read or written")
+
+-- the advice about a line of a command that was refused with a status
+abbrev pub advice_by : LineParts → Option LineCommand → Status → List Piece
+advice_by parts command SyntaxError = wrong_arguments parts command
+advice_by parts command UnknownCommand = two_pieces (codes "there is no command \"") Command (codes "\"") (Text (hint_text parts.command)) []
+advice_by parts command LongLine = plain_pieces (codes "a line has at most 1024 characters")
+advice_by parts command BadName = wrong_name parts command
+advice_by parts command MissingArgument = missing_argument parts command
+advice_by parts command WriteFileOpen = one_piece (codes "the file \"") First (codes "\" was never closed, so it cannot be read")
+advice_by parts command FileNotFound = missing_file command
+advice_by parts command FileExists = one_piece (codes "the disk already has a file named \"") (file_piece parts command) (codes "\"")
+advice_by parts command FileTypeMismatch = one_piece (codes "the file \"") (file_piece parts command) (codes "\" has the wrong type for this command")
+advice_by parts command (IllegalBlock track sector) = wrong_block parts command
+advice_by parts command (DirectoryError condition) = one_piece (codes "the disk is damaged: ") (Text (condition_text condition)) (codes "; d64sh check shows where")
+advice_by parts command DiskFull = plain_pieces (codes "there is not enough space on the disk or in its directory")
+advice_by parts command (HostFile fault) = wrong_host_file parts command fault
+advice_by parts command NothingToUndo = plain_pieces (codes "there is nothing to undo")
+advice_by parts command NothingToRedo = plain_pieces (codes "there is nothing to redo")
+advice_by parts command NotOneBlock = one_piece (codes "the file \"") First (codes "\" is not 256 bytes long")
+advice_by parts command (BasicText fault line) = two_pieces (codes "the text \"") First (codes "\" is not a program: ") (Text (basic_fault fault)) []
+advice_by parts command (NotBasic fault) = two_pieces (codes "the file \"") First (codes "\" is not a BASIC program: ") (Text (list_fault fault)) []
+advice_by parts command FileLost = one_piece (codes "what was deleted as \"") First (codes "\" is lost, and cannot be brought back")
+advice_by parts command OutOfMemory = plain_pieces (codes "out of memory")
+advice_by parts command Done = plain_pieces []
+advice_by parts command (FilesScratched count) = plain_pieces []
+
+-- the advice about a line with these arguments that was refused with a status
+abbrev pub advice : LineParts → Status → List Piece
+advice parts status = advice_by parts (command_named parts.command) status
+
+-- the advice as bytes, with the line end
+abbrev pub advice_text : LineParts → List Piece → Bytes
+advice_text parts advised = flat_map (piece_bytes parts) advised ++ codes "\n"

@@ -1,0 +1,10 @@
+pub mod LineParts
+pub mod Hint
+pub mod Faults
+pub mod Advice
+pub mod Found
+pub mod Lost
+pub mod TextCause
+pub mod Refusal
+pub mod Near
+pub mod Remark

@@ -1,0 +1,418 @@
+//! What is wrong with a refused line, in plain words.
+ghost use Rattle.std.specs.Prelude.{◌≡◌};
+ghost use Rattle.script_advice.specs.Advice.{advice, file_piece, host_piece, missing_argument, missing_file, most_of, not_number, one_piece, piece_of, pieces, plain_pieces, piece_bytes, surplus_piece, two_pieces, usage_of, wrong_block, wrong_host_file, wrong_line, wrong_name, wrong_arguments};
+
+use crate::faults::{basic_fault, condition_text, list_fault};
+use crate::hint::hint_text;
+use crate::line_parts::LineParts;
+use script_lines::LineCommand;
+use script_text::number::number;
+use script_text::status::Status;
+
+/// A piece of the advice: a text, or an argument of the line.
+#[derive(Clone, Copy)]
+pub(crate) enum Piece {
+    Text(&'static [u8]),
+    Command,
+    First,
+    Second,
+    Third,
+    Fourth,
+}
+
+impl Piece {
+    /// The piece's bytes, by the arguments of the line.
+    pub(crate) fn of<'a>(self, parts: &LineParts<'a>) -> &'a [u8]
+        ensures { result.now ≡ piece_bytes parts.now (piece_of self) }
+    {
+        match self {
+            Piece::Text(text) => text,
+            Piece::Command => parts.command.as_bytes(),
+            Piece::First => parts.first.as_bytes(),
+            Piece::Second => parts.second.as_bytes(),
+            Piece::Third => parts.third.as_bytes(),
+            Piece::Fourth => parts.fourth.as_bytes(),
+        }
+    }
+}
+
+/// The advice about a refused line.
+#[derive(Clone, Copy)]
+pub(crate) struct Advice {
+    pub(crate) pieces: [Piece; 5],
+}
+
+impl Advice {
+    /// Only a text.
+    fn plain(text: &'static [u8]) -> Advice
+        ensures { pieces result ≡ plain_pieces text.now }
+    {
+        Advice::two(text, Piece::Text(b""), b"", Piece::Text(b""), b"")
+    }
+
+    /// A piece between two texts.
+    fn one(before: &'static [u8], piece: Piece, after: &'static [u8]) -> Advice
+        ensures { pieces result ≡ one_piece before.now (piece_of piece) after.now }
+    {
+        Advice::two(before, piece, after, Piece::Text(b""), b"")
+    }
+
+    /// Two pieces among three texts.
+    fn two(
+        before: &'static [u8],
+        piece: Piece,
+        between: &'static [u8],
+        other: Piece,
+        after: &'static [u8],
+    ) -> Advice
+        ensures { pieces result ≡ two_pieces before.now (piece_of piece) between.now (piece_of other) after.now }
+    {
+        Advice {
+            pieces: [
+                Piece::Text(before),
+                piece,
+                Piece::Text(between),
+                other,
+                Piece::Text(after),
+            ],
+        }
+    }
+
+    /// The advice about a line with these arguments that was refused with this status.
+    pub(crate) fn of(parts: &LineParts<'_>, status: &Status) -> Advice
+        ensures { pieces result ≡ advice parts.now status.now }
+    {
+        let command = LineCommand::named(parts.command);
+        match *status {
+            Status::SyntaxError => wrong_arguments(parts, command),
+            Status::UnknownCommand => Advice::two(
+                b"there is no command \"",
+                Piece::Command,
+                b"\"",
+                Piece::Text(hint_text(parts.command)),
+                b"",
+            ),
+            Status::LongLine => Advice::plain(b"a line has at most 1024 characters"),
+            Status::BadName => wrong_name(parts, command),
+            Status::MissingArgument => missing_argument(parts, command),
+            Status::WriteFileOpen => Advice::one(
+                b"the file \"",
+                Piece::First,
+                b"\" was never closed, so it cannot be read",
+            ),
+            Status::FileNotFound => missing_file(command),
+            Status::FileExists => Advice::one(
+                b"the disk already has a file named \"",
+                file_piece(parts, command),
+                b"\"",
+            ),
+            Status::FileTypeMismatch => Advice::one(
+                b"the file \"",
+                file_piece(parts, command),
+                b"\" has the wrong type for this command",
+            ),
+            Status::IllegalBlock { .. } => wrong_block(parts, command),
+            Status::DirectoryError { condition } => Advice::one(
+                b"the disk is damaged: ",
+                Piece::Text(condition_text(condition)),
+                b"; d64sh check shows where",
+            ),
+            Status::DiskFull => Advice::plain(
+                b"there is not enough space on the disk or in its directory",
+            ),
+            Status::HostFile { fault } => wrong_host_file(parts, command, fault),
+            Status::NothingToUndo => Advice::plain(b"there is nothing to undo"),
+            Status::NothingToRedo => Advice::plain(b"there is nothing to redo"),
+            Status::NotOneBlock => Advice::one(
+                b"the file \"",
+                Piece::First,
+                b"\" is not 256 bytes long",
+            ),
+            Status::BasicText { fault, .. } => Advice::two(
+                b"the text \"",
+                Piece::First,
+                b"\" is not a program: ",
+                Piece::Text(basic_fault(fault)),
+                b"",
+            ),
+            Status::NotBasic { fault } => Advice::two(
+                b"the file \"",
+                Piece::First,
+                b"\" is not a BASIC program: ",
+                Piece::Text(list_fault(fault)),
+                b"",
+            ),
+            Status::FileLost => Advice::one(
+                b"what was deleted as \"",
+                Piece::First,
+                b"\" is lost, and cannot be brought back",
+            ),
+            Status::OutOfMemory => Advice::plain(b"out of memory"),
+            Status::Done | Status::FilesScratched { .. } => Advice::plain(b""),
+        }
+    }
+}
+
+/// How the line of a command is typed; without one, where the commands are listed.
+fn usage_of(command: Option<LineCommand>) -> &'static [u8]
+    ensures { result.now ≡ usage_of command }
+{
+    match command {
+        Some(command) => command.usage().as_bytes(),
+        None => b"d64sh help shell lists the commands",
+    }
+}
+
+/// The most arguments that a command takes, if there is one.
+fn most_of(command: Option<LineCommand>) -> usize
+    ensures { result ≡ most_of command }
+{
+    match command {
+        Some(command) => command.most_arguments(),
+        None => 0,
+    }
+}
+
+/// A line whose file isn't there.
+fn missing_file(command: Option<LineCommand>) -> Advice
+    ensures { pieces result ≡ missing_file command }
+{
+    match command {
+        Some(LineCommand::Undelete) => Advice::one(
+            b"the disk has no deleted file \"",
+            Piece::First,
+            b"\"",
+        ),
+        _ => Advice::one(b"the disk has no file \"", Piece::First, b"\""),
+    }
+}
+
+/// The argument of a line that is the name of a file on the disk.
+fn file_piece(parts: &LineParts<'_>, command: Option<LineCommand>) -> Piece
+    ensures { piece_of result ≡ file_piece parts.now command }
+{
+    match command {
+        Some(LineCommand::Rename) => Piece::Second,
+        Some(LineCommand::Crunch) | Some(LineCommand::Write) => {
+            if parts.count > 2 {
+                Piece::Second
+            } else {
+                Piece::First
+            }
+        }
+        _ => Piece::First,
+    }
+}
+
+/// The argument of a line that is the name of a file of the host.
+fn host_piece(parts: &LineParts<'_>, command: Option<LineCommand>) -> Piece
+    ensures { piece_of result ≡ host_piece parts.now command }
+{
+    match command {
+        Some(LineCommand::Read) => {
+            if parts.count > 2 {
+                Piece::Second
+            } else {
+                Piece::First
+            }
+        }
+        _ => Piece::First,
+    }
+}
+
+/// The first argument of a line that is one too many, for a command that takes at most this many.
+fn surplus_piece(most: usize) -> Piece
+    ensures { piece_of result ≡ surplus_piece most }
+{
+    match most {
+        0 => Piece::First,
+        1 => Piece::Second,
+        2 => Piece::Third,
+        _ => Piece::Fourth,
+    }
+}
+
+/// The first of a track and a sector that is no number. `first` is the argument of the track.
+fn not_number(track: &str, first: Piece, second: Piece) -> Piece
+    ensures { piece_of result ≡ not_number track.now (piece_of first) (piece_of second) }
+{
+    match number(track.as_bytes()) {
+        Some(_) => second,
+        None => first,
+    }
+}
+
+/// A line whose arguments are not what its command takes.
+fn wrong_arguments(parts: &LineParts<'_>, command: Option<LineCommand>) -> Advice
+    ensures { pieces result ≡ wrong_arguments parts.now command }
+{
+    let most = most_of(command);
+    if parts.count == 0 {
+        Advice::plain(
+            b"quotes may only enclose a whole argument, and only printable ASCII is allowed",
+        )
+    } else if parts.count - 1 > most {
+        Advice::two(
+            b"\"",
+            surplus_piece(most),
+            b"\" is one argument too many: ",
+            Piece::Text(usage_of(command)),
+            b"",
+        )
+    } else {
+        wrong_line(parts, command)
+    }
+}
+
+/// A line whose host file has this fault.
+fn wrong_host_file(parts: &LineParts<'_>, command: Option<LineCommand>, fault: u8) -> Advice
+    ensures { pieces result ≡ wrong_host_file parts.now command fault }
+{
+    if parts.count == 1 {
+        return Advice::plain(b"the image file cannot be written");
+    }
+    let piece = host_piece(parts, command);
+    match fault {
+        1 => Advice::one(b"the host has no file \"", piece, b"\""),
+        3 => Advice::one(b"the file \"", piece, b"\" has more than 1048576 bytes"),
+        _ => Advice::one(b"the file \"", piece, b"\" cannot be read or written"),
+    }
+}
+
+/// A line with the right number of arguments, one of which its command does not take.
+fn wrong_line(parts: &LineParts<'_>, command: Option<LineCommand>) -> Advice
+    ensures { pieces result ≡ wrong_line parts.now command }
+{
+    match command {
+        Some(LineCommand::Block) => Advice::one(
+            b"\"",
+            not_number(parts.first, Piece::First, Piece::Second),
+            b"\" is not a number from 0 to 255: block T S",
+        ),
+        Some(LineCommand::BlockRead) | Some(LineCommand::BlockWrite) => Advice::one(
+            b"\"",
+            not_number(parts.second, Piece::Second, Piece::Third),
+            b"\" is not a number from 0 to 255",
+        ),
+        Some(LineCommand::Format) => Advice::one(
+            b"\"",
+            Piece::First,
+            b"\" has no comma between name and id: format NAME,ID",
+        ),
+        Some(LineCommand::Write) => Advice::one(
+            b"\"",
+            Piece::Second,
+            b"\" does not end with a file type (p, s or u): write HOST NAME,T",
+        ),
+        Some(LineCommand::Undelete) => Advice::one(
+            b"\"",
+            Piece::First,
+            b"\" does not end with a file type (p, s or u): undelete NAME,T",
+        ),
+        _ => Advice::one(
+            b"type the line like this: ",
+            Piece::Text(usage_of(command)),
+            b"",
+        ),
+    }
+}
+
+/// A line in which an argument cannot be a name.
+fn wrong_name(parts: &LineParts<'_>, command: Option<LineCommand>) -> Advice
+    ensures { pieces result ≡ wrong_name parts.now command }
+{
+    match command {
+        Some(LineCommand::BlockRead)
+        | Some(LineCommand::BlockWrite)
+        | Some(LineCommand::Keep)
+        | Some(LineCommand::Save) => Advice::one(
+            b"\"",
+            Piece::First,
+            b"\" is not a valid name of a host file, which has 1 to 255 characters",
+        ),
+        Some(LineCommand::Format) => Advice::one(
+            b"\"",
+            Piece::First,
+            b"\" is not a valid name of 1 to 16 characters and an id of 2, without * ? = : and quotes",
+        ),
+        Some(LineCommand::Name) => Advice::one(
+            b"\"",
+            Piece::First,
+            b"\" is not a valid name of 1 to 16 characters, alone or with an id of 2 after a comma, without * ? = : and quotes",
+        ),
+        Some(LineCommand::Petcat) | Some(LineCommand::ShowText) => Advice::one(
+            b"\"",
+            Piece::First,
+            b"\" is not a valid name, which has 1 to 16 characters without = : , and quotes",
+        ),
+        Some(LineCommand::Delete) => Advice::one(
+            b"one of the names from \"",
+            Piece::First,
+            b"\" on is not valid: a name has 1 to 16 characters without = : , and quotes",
+        ),
+        Some(LineCommand::Read) => Advice::two(
+            b"\"",
+            Piece::First,
+            b"\" is not a valid name on a disk, which has 1 to 16 characters without = : , and quotes, or the host cannot have a file \"",
+            host_piece(parts, command),
+            b"\": read NAME HOST",
+        ),
+        Some(LineCommand::Rename) => Advice::two(
+            b"\"",
+            Piece::First,
+            b"\" or \"",
+            Piece::Second,
+            b"\" is not a valid name on a disk, which has 1 to 16 characters without * ? = : , and quotes",
+        ),
+        Some(LineCommand::Undelete) => Advice::one(
+            b"\"",
+            Piece::First,
+            b"\" does not give a valid name on a disk, which has 1 to 16 characters without * ? = : , and quotes",
+        ),
+        _ => Advice::two(
+            b"\"",
+            file_piece(parts, command),
+            b"\" does not give a valid name on a disk, which has 1 to 16 characters without * ? = : , and quotes, or the host cannot have a file \"",
+            Piece::First,
+            b"\"",
+        ),
+    }
+}
+
+/// A line in which an argument is missing.
+fn missing_argument(parts: &LineParts<'_>, command: Option<LineCommand>) -> Advice
+    ensures { pieces result ≡ missing_argument parts.now command }
+{
+    match command {
+        Some(LineCommand::Save) => Advice::plain(
+            b"the session began without an image file, so save takes a name: save HOST",
+        ),
+        _ => Advice::one(
+            b"an argument is missing: ",
+            Piece::Text(usage_of(command)),
+            b"",
+        ),
+    }
+}
+
+/// A line that names a block that the disk doesn't have.
+fn wrong_block(parts: &LineParts<'_>, command: Option<LineCommand>) -> Advice
+    ensures { pieces result ≡ wrong_block parts.now command }
+{
+    match command {
+        Some(LineCommand::Block) => Advice::two(
+            b"the disk has no track ",
+            Piece::First,
+            b" with a sector ",
+            Piece::Second,
+            b": sectors are numbered from 0, and there are 21 on tracks 1 to 17, 19 on 18 to 24, 18 on 25 to 30, then 17",
+        ),
+        _ => Advice::two(
+            b"the disk has no track ",
+            Piece::Second,
+            b" with a sector ",
+            Piece::Third,
+            b": sectors are numbered from 0, and there are 21 on tracks 1 to 17, 19 on 18 to 24, 18 on 25 to 30, then 17",
+        ),
+    }
+}

@@ -1,0 +1,101 @@
+//! What is wrong with the text of a refused `crunch`, which is read again for this.
+ghost use Rattle.std.specs.Prelude.{◌≡◌, IfOk, IfSome};
+ghost use Rattle.host_storage.specs.Files.{HostState};
+ghost use Rattle.script_advice.specs.TextCause.{HasCauseFirst, IsFirstCause, IsFoundCause, IsFoundLine, can_be_read_again, is_fault, text_cause_line};
+
+use cbm_text::{Cause, FaultyLine, PROGRAM_START, faulty_lines};
+use host_storage::Host;
+use script_lines::host_file::HOST_FILE_BYTES;
+use script_text::status::Status;
+use std::alloc::{AllocError, Global};
+
+/// The line about the text in the host file with this name that was refused with this status: after
+/// this beginning, what is wrong with it, if it is still there and there is memory.
+pub(crate) fn text_line<H: Host>(
+    alloc: Global,
+    host: &mut H,
+    start: &[u8],
+    name: &str,
+    status: &Status,
+) -> Option<Vec<u8>>
+    ensures { IfSome result (λ line. IsFoundLine (H.state host.old) start.now name.now status.now line.items) }
+{
+    let cause = text_cause(alloc, host, name, status)?;
+    match line_about(alloc, start, name, cause) {
+        Ok(line) => Some(line),
+        Err(_) => None,
+    }
+}
+
+/// The line about a text with what is wrong with it.
+#[tactic(auto, unfolding(crate::specs::TextCause::text_cause_line))]
+fn line_about(alloc: Global, start: &[u8], name: &str, cause: Cause) -> Result<Vec<u8>, AllocError>
+    ensures { IfOk result (λ line. line.items ≡ text_cause_line start.now name.now cause) }
+{
+    let mut line = Vec::new(alloc);
+    line.extend_from_slice(start)?;
+    line.extend_from_slice(b"the text \"")?;
+    line.extend_from_slice(name.as_bytes())?;
+    line.extend_from_slice(b"\" is not a program: ")?;
+    cause.push_to(&mut line)?;
+    line.extend_from_slice(b"\n")?;
+    Ok(line)
+}
+
+/// What is wrong with the text in the host file with this name that was refused with this status.
+fn text_cause<H: Host>(alloc: Global, host: &mut H, name: &str, status: &Status) -> Option<Cause>
+    ensures { IfSome result (IsFoundCause (H.state host.old) name.now status.now) }
+{
+    let Status::BasicText { fault, line } = *status else {
+        return None;
+    };
+    if !can_be_read_again(name) {
+        return None;
+    }
+    let mut text = Vec::new(alloc);
+    match host.fill(name, HOST_FILE_BYTES, &mut text) {
+        Ok(()) => first_cause(alloc, text.as_slice(), fault, line),
+        Err(_) => None,
+    }
+}
+
+/// Whether a host file can be read twice: a device's content can be read only once.
+fn can_be_read_again(name: &str) -> bool
+    ensures { result ≡ can_be_read_again name.now }
+{
+    !name.starts_with("/dev/") && !name.starts_with("/proc/")
+}
+
+/// What is wrong with the first faulty line of a text, if that has a fault with this number on the
+/// line with this number.
+fn first_cause(alloc: Global, text: &[u8], fault: u8, line: u32) -> Option<Cause>
+    ensures { IfSome result (IsFirstCause text.now fault line) }
+{
+    let Ok(found) = faulty_lines(alloc, PROGRAM_START, text, 1) else {
+        return None;
+    };
+    cause_in(found.lines.as_slice(), fault, line)
+}
+
+/// The cause of the first faulty line, if it has such a fault.
+fn cause_in(lines: &[FaultyLine<'_>], fault: u8, line: u32) -> Option<Cause>
+    ensures { IfSome result (HasCauseFirst lines.now fault line) }
+{
+    match lines {
+        [] => None,
+        [first, ..] => {
+            if is_fault(first, fault, line) {
+                Some(first.cause)
+            } else {
+                None
+            }
+        }
+    }
+}
+
+/// Whether a faulty line has a fault with this number, and is the line with this number.
+fn is_fault(faulty: &FaultyLine<'_>, fault: u8, line: u32) -> bool
+    ensures { result ≡ is_fault faulty.now fault line }
+{
+    faulty.fault.number() == fault && faulty.fault.line() == Some(line as usize)
+}
