@@ -280,10 +280,8 @@ fn push_digits(out: &mut Vec<u8>, digest: &[u8; 32]) -> Result<(), AllocError>
     ensures { OnOk result (out.new.items ≡ out.old.items ++ encode_lower digest.now) }
 {
     let mut digits = [0; 64];
-    match encode_to_slice(digest, &mut digits) {
-        Ok(()) => out.extend_from_slice(&digits),
-        Err(_) => Err(AllocError),
-    }
+    encode_to_slice(digest, &mut digits).unwrap();
+    out.extend_from_slice(&digits)
 }
 
 /// Appends the line of the digest of the file that was made, or that none was written.
