@@ -9,6 +9,5 @@ pub(crate) fn block_count(image: &Image) -> usize
     ensures count { result ≡ length image.now }
     ensures size { IsSize (length image.now) }
 {
-    image.known_image();
     image.bytes().len() / BLOCK_BYTES
 }

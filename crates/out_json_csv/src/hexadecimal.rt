@@ -17,8 +17,6 @@ pub(crate) fn spell_hexadecimal(text: &mut Vec<u8>, bytes: &[u8]) -> Result<(), 
 {
     text.clear();
     text.resize(2 * bytes.len(), 0)?;
-    match encode_to_slice(bytes, text.as_mut_slice()) {
-        Ok(()) => Ok(()),
-        Err(_) => Err(AllocError),
-    }
+    encode_to_slice(bytes, text.as_mut_slice()).unwrap();
+    Ok(())
 }
