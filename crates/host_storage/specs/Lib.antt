@@ -7,3 +7,4 @@ pub mod Obstacles
 pub mod Output
 pub mod Replacement
 pub mod Shown
+pub mod System

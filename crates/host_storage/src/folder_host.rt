@@ -2,6 +2,7 @@
 
 ghost use Rattle.std.specs.Prelude.{◌≡◌, ◌≢◌, ◌+◌, ◌<◌, ◌≤◌, ◌↔◌, ◌++◌, length, take, vec_len, None, IfOk, IfErr, IfSome, OnOk, OnErr};
 ghost use Rattle.std.specs.Io.KnownBytes.{Consumes, IsAtEnd};
+ghost use Rattle.host_storage.specs.System.{is_of_open_file};
 ghost use Rattle.host_storage.specs.Folders.{failures_after_making};
 ghost use Rattle.host_storage.specs.Host.{failures_after};
 
@@ -217,7 +218,7 @@ fn read_file<R: Files>(
 /// Whether a named pipe is at this path: opening one may wait for ever for its writer. A pipe that
 /// the process has open already, such as `<(..)` of a shell, does not count.
 fn is_named_pipe<R: Files>(rt: &R, path: &str) -> bool {
-    if is_open_already(path) {
+    if is_of_open_file(path) {
         return false;
     }
     match fs::metadata(rt, path) {
@@ -227,7 +228,9 @@ fn is_named_pipe<R: Files>(rt: &R, path: &str) -> bool {
 }
 
 /// Whether a path is one under which a system shows a process the files that it has open.
-fn is_open_already(path: &str) -> bool {
+fn is_of_open_file(path: &str) -> bool
+    ensures { result ≡ is_of_open_file path.now }
+{
     path == "/dev/stdin" || path.starts_with("/dev/fd/") || path.starts_with("/proc/self/fd/")
 }
 

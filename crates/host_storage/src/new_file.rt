@@ -1,8 +1,10 @@
 //! New files of the system, beside those that they replace.
 
-ghost use Rattle.std.specs.Prelude.{◌≡◌, None, IfErr, OnOk};
+ghost use Rattle.std.specs.Prelude.{◌≡◌, None, IfErr, IfOk, OnOk};
 ghost use Rattle.std.specs.Io.KnownBytes.{Appends};
+ghost use Rattle.std.specs.Path.{path_buf_bytes, path_bytes, path_with_file_name};
 ghost use Rattle.host_storage.specs.Host.{IsOfDeviceOrMemory};
+ghost use Rattle.host_storage.specs.System.{draft_name, folder_path};
 
 use crate::access::keep_access;
 use crate::draft::Draft;
@@ -117,7 +119,9 @@ pub fn open_beside<R: Files>(
 }
 
 /// The path of a new file in the folder of this one.
-fn draft_path(alloc: Global, path: Path<'_>, number: u64) -> Result<PathBuf, AllocError> {
+fn draft_path(alloc: Global, path: Path<'_>, number: u64) -> Result<PathBuf, AllocError>
+    ensures { IfOk result (λ draft. path_buf_bytes draft ≡ path_with_file_name (path_bytes path.entry) (draft_name number)) }
+{
     let name = format!(in alloc; ".d64sh-{number}")?;
     path.with_file_name(alloc, name.as_str())
 }
@@ -134,11 +138,17 @@ fn open_new<R: Files>(rt: &R, path: Path<'_>, mode: u32) -> io::Result<R::File> 
 /// Waits until the disk has the folder's new entry, if the system offers that. The file is whole
 /// either way.
 pub fn sync_folder_of<R: Files>(rt: &R, path: Path<'_>) {
-    let folder = match path.parent() {
+    if let Ok(folder) = File::open(rt, folder_of(path)) {
+        let _ = folder.sync_all();
+    }
+}
+
+/// The folder of the file at this path.
+fn folder_of(path: Path<'_>) -> Path<'_>
+    ensures { path_bytes result ≡ folder_path (path_bytes path.entry) }
+{
+    match path.parent() {
         Some(parent) if parent.to_str() != Some("") => parent,
         _ => Path::new("."),
-    };
-    if let Ok(folder) = File::open(rt, folder) {
-        let _ = folder.sync_all();
     }
 }

@@ -9,11 +9,11 @@ use std::str;
 /// The most bytes that are read of such a file, which is shorter.
 const STATUS_BYTES: usize = 4096;
 
-/// The number after this text in such a file, or None if there is no number.
-pub fn number_after<R: Files>(rt: &R, path: &str, words: &str) -> Option<u64> {
+/// The number after this label in such a file, or None if there is no number.
+pub fn number_after<R: Files>(rt: &R, path: &str, label: &str) -> Option<u64> {
     let mut bytes = [0; STATUS_BYTES];
     match File::open(rt, path) {
-        Ok(mut file) => number_in(first_piece(&mut file, &mut bytes), words),
+        Ok(mut file) => number_in(first_piece(&mut file, &mut bytes), label),
         Err(_) => None,
     }
 }
@@ -26,10 +26,10 @@ fn first_piece<'b, F: Read>(file: &mut F, buffer: &'b mut [u8]) -> &'b [u8] {
     }
 }
 
-/// The number after these words in a text, or None if there is no number.
-fn number_in(text: &[u8], words: &str) -> Option<u64> {
+/// The number after this label in a text, or None if there is no number.
+fn number_in(text: &[u8], label: &str) -> Option<u64> {
     let text = str::from_utf8(text).ok()?;
-    let (_, rest) = text.split_once(words)?;
+    let (_, rest) = text.split_once(label)?;
     rest.split_whitespace().next()?.parse().ok()
 }
 

@@ -1,6 +1,9 @@
 //! The limit of the system on the size of a file. A write at the limit ends the process by a
 //! signal, so the limit is looked up before a write.
 
+ghost use Rattle.std.specs.Prelude.{◌≡◌};
+ghost use Rattle.host_storage.specs.System.{is_at_limit};
+
 use crate::process_status::number_after;
 use crate::standard_streams::StandardStream;
 use std::cell::Cell;
@@ -35,8 +38,17 @@ impl SizeLimit {
             return false;
         }
         match stream.metadata(rt) {
-            Some(found) if found.is_file() => limit <= found.len().max(stream.position(rt)),
+            Some(found) if found.is_file() => {
+                is_at_limit(limit, found.len(), stream.position(rt))
+            }
             _ => false,
         }
     }
+}
+
+/// Whether a file of this length, in which the next byte goes to a position, has reached the limit.
+fn is_at_limit(limit: u64, length: u64, position: u64) -> bool
+    ensures { result ≡ is_at_limit limit length position }
+{
+    limit <= length.max(position)
 }

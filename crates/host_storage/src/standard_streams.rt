@@ -1,5 +1,8 @@
 //! The standard streams of the process, and the files that are open as them.
 
+ghost use Rattle.std.specs.Prelude.{◌≡◌};
+ghost use Rattle.host_storage.specs.System.{position_path, stream_path};
+
 use crate::process_status::number_after;
 use std::fs::{self, Metadata};
 use std::io::ErrorKind;
@@ -20,22 +23,34 @@ pub enum StandardStream {
 impl StandardStream {
     /// The system's metadata of what is open as this stream, if something is.
     pub fn metadata<R: Files>(self, rt: &R) -> Option<Metadata> {
-        let path = match self {
-            StandardStream::Input => "/proc/self/fd/0",
-            StandardStream::Output => "/proc/self/fd/1",
-            StandardStream::Error => "/proc/self/fd/2",
-        };
-        fs::metadata(rt, path).ok()
+        fs::metadata(rt, self.path()).ok()
     }
 
     /// Where the next write goes in the file that is open as this stream, unless it is appended to.
     pub fn position<R: Files>(self, rt: &R) -> u64 {
-        let path = match self {
+        number_after(rt, self.position_path(), "pos:").unwrap_or(0)
+    }
+
+    /// Where the system shows what is open as this stream.
+    fn path(self) -> &'static str
+        ensures { result.now ≡ stream_path self }
+    {
+        match self {
+            StandardStream::Input => "/proc/self/fd/0",
+            StandardStream::Output => "/proc/self/fd/1",
+            StandardStream::Error => "/proc/self/fd/2",
+        }
+    }
+
+    /// Where it shows how far that was read or written.
+    fn position_path(self) -> &'static str
+        ensures { result.now ≡ position_path self }
+    {
+        match self {
             StandardStream::Input => "/proc/self/fdinfo/0",
             StandardStream::Output => "/proc/self/fdinfo/1",
             StandardStream::Error => "/proc/self/fdinfo/2",
-        };
-        number_after(rt, path, "pos:").unwrap_or(0)
+        }
     }
 }
 
