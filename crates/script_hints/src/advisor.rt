@@ -150,9 +150,7 @@ impl<'w, W: Write, H: Host> Advisor<'w, W, H> {
             (prompt (option_map_or (λ name. name.items) self.old.name (codes "d64sh")) (is_unsaved self.old.kept image.now)) }
     {
         let is_unsaved = is_unsaved(self.kept, image);
-        let name = self.name.take();
-        let _ = write_prompt(&mut self.output, bytes_of(&name, b"d64sh"), is_unsaved);
-        self.name = name;
+        let _ = write_prompt(&mut self.output, bytes_of(&self.name, b"d64sh"), is_unsaved);
         self.is_prompting = true;
     }
 
@@ -164,10 +162,10 @@ impl<'w, W: Write, H: Host> Advisor<'w, W, H> {
         ensures lines { self.new.lines ≡ self.old.lines }
         ensures kept { (raw : List ℕ) → HoldsText line.now raw → self.old.is_typed ≡ true → is_accepted status.now ≡ true → (found : List ℕ) × MayBeDefault image.now (parts_of_line raw).first found × (self.new.kept ≡ kept_after self.old.kept (effect_of (option_copied home.entry) found (parts_of_line raw)) image.now) }
         ensures held { is_accepted status.now ≡ false → self.new.kept ≡ self.old.kept }
-        ensures advised { (raw : List ℕ) → HoldsText line.now raw → is_accepted status.now ≡ false → (start words : List ℕ)
+        ensures advised { (raw : List ℕ) → HoldsText line.now raw → is_accepted status.now ≡ false → (start said : List ℕ)
             × MayStart self.old.is_numbered self.old.lines (shown_raw_text raw self.old.first_bytes.items) start
-            × MaySay (H.state self.old.host) image.now start (parts_of_line raw) status.now words
-            × Writes (account_at W.contents self.old.output) (account_at W.contents self.new.output) words }
+            × MaySay (H.state self.old.host) image.now start (parts_of_line raw) status.now said
+            × Writes (account_at W.contents self.old.output) (account_at W.contents self.new.output) said }
         ensures silent { is_accepted status.now ≡ true → self.new.output ≡ self.old.output }
     {
         let parts = LineParts::of(line);
@@ -240,15 +238,15 @@ impl<'w, W: Write, H: Host> Advisor<'w, W, H> {
     /// Says what else there is to say about a line that left this image, if there is memory.
     pub fn explain(&mut self, line: &HeldLine, status: &Status, image: &Image)
         ensures lent { self.new.output.writer.ghost_name ≡ self.old.output.writer.ghost_name }
-        ensures explained { (raw : List ℕ) → HoldsText line.now raw → (words : List ℕ) × MayRemark raw status.now image.now self.old.files words
-            × Writes (account_at W.contents self.old.output) (account_at W.contents self.new.output) words }
+        ensures explained { (raw : List ℕ) → HoldsText line.now raw → (said : List ℕ) × MayRemark raw status.now image.now self.old.files said
+            × Writes (account_at W.contents self.old.output) (account_at W.contents self.new.output) said }
         ensures files { self.new.files ≡ file_count image.now }
     {
         let text = text_of(line, b"");
         let parts = LineParts::of(line);
         let nothing = Vec::new(self.alloc);
-        let words = remark(self.alloc, text, &parts, status, image, self.files).unwrap_or(nothing);
-        let _ = self.output.write(words.as_slice());
+        let said = remark(self.alloc, text, &parts, status, image, self.files).unwrap_or(nothing);
+        let _ = self.output.write(said.as_slice());
         self.files = file_count(image);
     }
 
