@@ -27,7 +27,6 @@ fn list_differences(
     ensures { OnOk result (blocks.new.items ≡ differences image.now other.now) }
 {
     blocks.clear();
-    image.known_image();
     for block in image.blocks() {
         let differs = !other.has_bytes(block, image.sector(block));
         keep_if(blocks, block, differs)?;

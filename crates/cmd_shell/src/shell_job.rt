@@ -1,5 +1,6 @@
 //! The shell's job: a script on the image of a file, on a blank one, or on a session that was kept.
-ghost use Rattle.std.specs.Prelude.{◌≡◌, ℕ, List, Result, Ok, Err, None, IfOk, IfErr, OnOk, map, option_copied, option_map, string_bytes, true, false};
+ghost use Rattle.std.specs.Prelude.{◌≡◌, ◌==◌, ℕ, List, Result, Ok, Err, None, IfOk, IfErr, OnOk, length, map, not, option_copied, option_map, string_bytes, true, false};
+ghost use Rattle.std.specs.Option.{option_or};
 ghost use Rattle.host_storage.specs.declared.host.HostFault.{HostFault};
 ghost use Rattle.d64_image.specs.Image.{IsImage, bytes_of};
 ghost use Rattle.d64_history.specs.SessionFile.{IsSession, file_of};
@@ -101,7 +102,12 @@ impl<'n> ShellJob<'n> {
     }
 
     /// Returns what the observer gets at the session's begin.
-    fn opening(&self) -> Opening<'n> {
+    fn opening(&self) -> Opening<'n>
+        ensures home { option_copied result.home ≡ (options_in self.now).home }
+        ensures held_in { option_copied result.held_in ≡ option_or (option_copied self.now.resume) (option_copied self.now.image) }
+        ensures given { result.is_given ≡ not (length self.now.lines.now == 0) }
+        ensures refusals { result.refusals ≡ self.now.refusals }
+    {
         Opening {
             home: self.home(),
             held_in: self.resume.or(self.image),
