@@ -187,7 +187,7 @@ pub due_reported : (fault : ProgramFault) (source : Source) (reader : Option (Li
 due_reported faults.Read source reader reading output before after host due = due
 due_reported faults.Write source reader reading output before after host due = due
 due_reported faults.Memory source reader reading output before after host due = tt
-due_reported faults.UnreadableWords source reader reading output before after host due = tt
+due_reported faults.UnreadableArgument source reader reading output before after host due = tt
 due_reported (faults.WrongLength length) source reader reading output before after host due = tt
 due_reported faults.UnreadableImage source reader reading output before after host due = tt
 due_reported faults.UnreadableSession source reader reading output before after host due = tt

@@ -4,17 +4,17 @@
 
 ghost use Rattle.program_console.specs.Console.{IsFresh};
 
-use d64_shell::{Console, FolderHost, Nobody, ObservedProgram, ProgramFault, Subcommand};
+use d64_shell::{Console, FolderHost, Nobody, ObservedProgram, ProgramFault};
 use host_storage::{Host, InputStream, OutputStream, Retrying, SizeLimit, StandardStream};
 use program_console::{
     MarkingWriter, ProgressLine, QuietWriter, WatchedHost, WipingWriter, WithinLimit,
-    asks_for_program,
+    asks_for_program, asks_for_report,
 };
 use script_hints::Advisor;
 use std::alloc::Global;
 use std::cell::Cell;
 use std::env;
-use std::io::{self, BufWriter, ErrorKind, IsTerminal, Read, Write};
+use std::io::{BufWriter, IsTerminal, Read, Write};
 use std::process::ExitCode;
 
 /// The exit status if nothing was done.
@@ -47,7 +47,7 @@ fn start<'a, E: Write>(
     is_unread: &Cell<bool>,
     errors: &mut E,
 ) -> Result<u8, ProgramFault> {
-    let arguments = env::args(rt).map_err(fault_of_arguments)?;
+    let arguments = env::args(rt).map_err(|error| ProgramFault::of_arguments(error.kind()))?;
     let owned: Vec<String> = arguments.skip(1).collect(rt.alloc())?;
     let arguments: Vec<&str> = owned
         .iter()
@@ -58,7 +58,7 @@ fn start<'a, E: Write>(
         return Ok(NOT_RUN);
     }
     let output = WithinLimit::new(rt, limit, StandardStream::Output, rt.stdout());
-    let is_marking = is_report(owned.first());
+    let is_marking = asks_for_report(arguments.as_slice());
     let output = Retrying(MarkingWriter::new(is_unread, is_marking, output));
     run_program(rt, limit, line, output, errors, arguments.as_slice())
 }
@@ -148,23 +148,4 @@ fn run_unadvised<R: Read, W: Write, F: Write, H: Host>(
         observer: &mut nobody,
     };
     program.run(arguments, console, host)
-}
-
-/// Whether the first argument is a subcommand whose output may go unread without a fault.
-fn is_report(argument: Option<&String>) -> bool {
-    let Some(name) = argument else {
-        return false;
-    };
-    match Subcommand::named(name.as_str()) {
-        Some(subcommand) => subcommand.is_report(),
-        None => false,
-    }
-}
-
-/// Returns why the arguments cannot be had: memory ran out, or one of them is not UTF-8.
-fn fault_of_arguments(error: io::Error) -> ProgramFault {
-    match error.kind() {
-        ErrorKind::OutOfMemory => ProgramFault::Memory,
-        _ => ProgramFault::UnreadableWords,
-    }
 }

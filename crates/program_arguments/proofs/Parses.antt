@@ -16,7 +16,7 @@ use Rattle.program_arguments.specs.Commands.{d64sh}
 use Rattle.program_arguments.specs.Requested.{IsFault, IsFaultOf, IsFaultOfKind, IsJob, IsJobOf, IsOneOf, Met}
 use Rattle.program_arguments.specs.declared.jobs.Job.{Job}
 use Rattle.program_arguments.specs.declared.jobs.JobFault.{JobFault}
-use Rattle.program_arguments.specs.declared.jobs.JobFault.TheVariants.{Words, Start, Memory, Tracks, Both, Format, Names, Null, Picture, Difference, Folder, Title, Links, Output, Dumps}
+use Rattle.program_arguments.specs.declared.jobs.JobFault.TheVariants.{Arguments, Start, Memory, Tracks, Both, Format, Names, Null, Picture, Difference, Folder, Title, Links, Output, Dumps}
 
 pub simple_and_free : is_simple_and_free d64sh ≡ true
 unfolding clap_on_literals d64sh
@@ -91,7 +91,7 @@ met_as words {rows = rows} is same = is ∙ ap (λ name. Some (name, rows)) (sym
 
 -- clap's error is reported
 pub reported : (words : List Text) (error : Error) (fault : JobFault) → HasKind (fault_of d64sh words) error → IsFaultOfKind (kind_of error) fault → IsFault words fault
-reported words error (Words carried) kind is =
+reported words error (Arguments carried) kind is =
     elim kind [ inl memory ↦ absurd (is.1 memory) | inr among ↦ subst (λ k. IsAmong k (fault_of d64sh words) × (k ≢ OutOfMemory)) (sym is.0) (among, is.1) ]
 reported words error Start kind is = absurd is
 reported words error Memory kind is = tt
@@ -114,7 +114,7 @@ module _ (words : List Text) (met : Met) (none : fault_of d64sh words ≡ []) (i
   asked job asks = (none, subst (λ o. IsSomeAnd o (λ m. IsJobOf m job)) (sym is) asks)
 
   pub refused : (fault : JobFault) → IsFaultOf met fault → IsFault words fault
-  refused (Words error) asks = absurd asks
+  refused (Arguments error) asks = absurd asks
   refused Start asks = (none, subst (λ o. IsSomeAnd o (λ m. IsFaultOf m Start)) (sym is) asks)
   refused Memory asks = tt
   refused Tracks asks = (none, subst (λ o. IsSomeAnd o (λ m. IsFaultOf m Tracks)) (sym is) asks)

@@ -9,7 +9,7 @@ use Rattle.program_arguments.specs.Start.{HasNoAddress, IsStartBy}
 use Rattle.program_arguments.specs.declared.jobs.Job.{Job}
 use Rattle.program_arguments.specs.declared.jobs.Job.TheVariants.{Shell, Petcat, Crunch, Check, Files, Extract, Map, Diff, Merge, Catalogue}
 use Rattle.program_arguments.specs.declared.jobs.JobFault.{JobFault}
-use Rattle.program_arguments.specs.declared.jobs.JobFault.TheVariants.{Words, Start, Memory, Tracks, Both, Format, Names, Null, Picture, Difference, Folder, Title, Links, Output, Dumps}
+use Rattle.program_arguments.specs.declared.jobs.JobFault.TheVariants.{Arguments, Start, Memory, Tracks, Both, Format, Names, Null, Picture, Difference, Folder, Title, Links, Output, Dumps}
 use Rattle.program_arguments.specs.ProgramJobs.{AsksForProgram, IsForProgram, IsReadAsForProgram}
 
 -- `crunch` with a start that is an address, and without a file for the output
@@ -68,7 +68,7 @@ no_change name (inr (inl is)) crunch = other name (codes "merge") refl is crunch
 no_change name (inr (inr is)) crunch = is
 
 no_fault : (met : Met) (fault : JobFault) (asks : Bool) → IsReadAsForProgram (Err fault) (Some asks) → IsFaultOf met fault → IsCrunch met → ⊥
-no_fault met (Words error) asks read is crunch = is
+no_fault met (Arguments error) asks read is crunch = is
 no_fault met Start asks read is (crunch, none, start, by) = no_start _ start is.1 by
 no_fault met Memory asks read is crunch = true≢false read
 no_fault met Tracks asks read is crunch = other met.0 (codes "shell") refl is.0 crunch.0
@@ -109,7 +109,7 @@ decides arguments (Ok job) asks used fault by = (
   λ (other_job, other_used, writes).
       by.1 (by_both (subcommand_of d64sh arguments) used.1 other_used.1 (λ met this that. job_of met job this (crunch_of met other_job that writes))),
 )
-decides arguments (Err (Words error)) asks job fault by =
+decides arguments (Err (Arguments error)) asks job fault by =
     never asks by (λ (other_job, used, writes). subst (λ kinds. IsAmong (kind_of error) kinds) used.0 fault.0)
 decides arguments (Err Memory) asks job fault by = absurd (true≢false by)
 decides arguments (Err Start) asks job fault by = never asks by (no_use arguments Start asks by fault)

@@ -1,11 +1,11 @@
 -- The texts of the faults of arguments.
 use Rattle.std.specs.Prelude.{List, ℕ, Option, None, Some, codes}
 use Rattle.program_arguments.specs.declared.jobs.JobFault.{JobFault}
-use Rattle.program_arguments.specs.declared.jobs.JobFault.TheVariants.{Words, Start, Memory, Tracks, Both, Format, Names, Null, Picture, Difference, Folder, Title, Links, Output, Dumps}
+use Rattle.program_arguments.specs.declared.jobs.JobFault.TheVariants.{Arguments, Start, Memory, Tracks, Both, Format, Names, Null, Picture, Difference, Folder, Title, Links, Output, Dumps}
 
 -- the text of a fault; None for an error of clap's, which has its own
 abbrev pub fault_text_of : JobFault → Option (List ℕ)
-fault_text_of (Words error) = None
+fault_text_of (Arguments error) = None
 fault_text_of Start = Some (codes "usage: --start takes one to four hexadecimal digits")
 fault_text_of Memory = Some (codes "out of memory")
 fault_text_of Tracks = Some (codes "usage: --tracks takes 35 or 40 and no IMAGE")

@@ -8,6 +8,7 @@ pub mod Making
 pub mod Merging
 pub mod Names
 pub mod Page
+pub mod Refusals
 pub mod Start
 pub mod Subcommands
 pub mod Tracks

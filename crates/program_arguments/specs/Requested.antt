@@ -10,7 +10,7 @@ use Rattle.program_arguments.specs.declared.subcommand.Subcommand.{Subcommand}
 use Rattle.program_arguments.specs.Start.{IsStartBy, HasNoAddress}
 use Rattle.program_arguments.specs.Tracks.{IsTracksBy, HasNoTracks}
 use Rattle.program_arguments.specs.Extraction.{HasNoFolder, IsExtractionBy}
-use Rattle.program_arguments.specs.Format.{diff_form_of, form_word, format_of, picture_form_of}
+use Rattle.program_arguments.specs.Format.{diff_form_of, form_name, format_of, picture_form_of}
 use Rattle.program_arguments.specs.Leftovers.{IsLeftoversBy}
 use Rattle.program_arguments.specs.Merging.{IsMergingBy}
 use Rattle.program_arguments.specs.Names.{files_by, HasNoNames, HasNullAlone, IsNamesBy}
@@ -22,7 +22,7 @@ use Rattle.program_arguments.specs.declared.jobs.PictureForm.{PictureForm}
 use Rattle.program_arguments.specs.declared.jobs.Job.{Job}
 use Rattle.program_arguments.specs.declared.jobs.Job.TheVariants.{Shell, Petcat, Crunch, Check, Files, Extract, Map, Diff, Merge, Catalogue}
 use Rattle.program_arguments.specs.declared.jobs.JobFault.{JobFault}
-use Rattle.program_arguments.specs.declared.jobs.JobFault.TheVariants.{Words, Start, Memory, Tracks, Both, Format, Names, Null, Picture, Difference, Folder, Title, Links, Output, Dumps}
+use Rattle.program_arguments.specs.declared.jobs.JobFault.TheVariants.{Arguments, Start, Memory, Tracks, Both, Format, Names, Null, Picture, Difference, Folder, Title, Links, Output, Dumps}
 
 -- a subcommand that the arguments name, and the values that they give to its arguments
 abbrev pub Met : Type 0
@@ -64,7 +64,7 @@ HasBoth met = IsSomeAnd (first_of (codes "resume") met.1) (λ file. IsSome (firs
 
 -- the form of a survey's output that `--format` gives
 abbrev pub format_given : Met → Option OutputFormat
-format_given met = format_of (form_word met.1)
+format_given met = format_of (form_name met.1)
 
 -- `extract` is given a folder with an empty name
 abbrev pub IsPlaceless : Met → Type 0
@@ -78,11 +78,11 @@ TakesNames met = (IsOneOf surveys met.0 × IsSome (format_given met) × (¬ IsPl
 
 -- the form of a picture that `--format` gives
 abbrev pub picture_form_given : Met → Option PictureForm
-picture_form_given met = picture_form_of (form_word met.1)
+picture_form_given met = picture_form_of (form_name met.1)
 
 -- the form of changes that `--format` gives
 abbrev pub diff_form_given : Met → Option DiffForm
-diff_form_given met = diff_form_of (form_word met.1)
+diff_form_given met = diff_form_of (form_name met.1)
 
 -- the subcommand asks for this job
 abbrev pub IsJobOf : Met → Job → Type 0
@@ -117,7 +117,7 @@ IsJobOf met (Catalogue page names) = (met.0 ≡ codes "catalogue") × IsPageBy m
 -- says which file a merge makes, or else of which files; or else since there are no names, or
 -- `--null` is given without a list of them; or there is no memory
 abbrev pub IsFaultOf : Met → JobFault → Type 0
-IsFaultOf met (Words error) = ⊥
+IsFaultOf met (Arguments error) = ⊥
 IsFaultOf met Start = (met.0 ≡ codes "crunch") × HasNoAddress (first_of (codes "start") met.1)
 IsFaultOf met Memory = ⊤
 IsFaultOf met Tracks = (met.0 ≡ codes "shell") × HasNoTracks (first_of (codes "tracks") met.1) (first_of (codes "image") met.1)
@@ -146,19 +146,19 @@ IsJob arguments job = IsUse arguments (λ met. IsJobOf met job)
 -- the arguments ask for no job, by this fault: an error of clap's, of one of the kinds that it has
 -- for these arguments; or a fault of what the subcommand is given
 abbrev pub IsFault : List Text → JobFault → Type 0
-IsFault arguments (Words error) = IsAmong (kind_of error) (fault_of d64sh arguments) × (kind_of error ≢ OutOfMemory)
+IsFault arguments (Arguments error) = IsAmong (kind_of error) (fault_of d64sh arguments) × (kind_of error ≢ OutOfMemory)
 IsFault arguments Memory = ⊤
 IsFault arguments fault = IsUse arguments (λ met. IsFaultOf met fault)
 
 -- the fault for an error of clap's: memory ran out, or the error itself
 abbrev pub IsReportedAs : Error → JobFault → Type 0
-IsReportedAs error (Words reported) = (reported ≡ error) × (kind_of error ≢ OutOfMemory)
+IsReportedAs error (Arguments reported) = (reported ≡ error) × (kind_of error ≢ OutOfMemory)
 IsReportedAs error Memory = kind_of error ≡ OutOfMemory
 IsReportedAs error fault = ⊥
 
 -- a fault for an error of this kind of clap's: one that has this kind; or memory ran out
 abbrev pub IsFaultOfKind : ErrorKind → JobFault → Type 0
-IsFaultOfKind kind (Words error) = (kind_of error ≡ kind) × (kind ≢ OutOfMemory)
+IsFaultOfKind kind (Arguments error) = (kind_of error ≡ kind) × (kind ≢ OutOfMemory)
 IsFaultOfKind kind Memory = ⊤
 IsFaultOfKind kind fault = ⊥
 
@@ -168,5 +168,5 @@ GoesOnWith arguments subcommand = (rest : List Text) × (drop 1 arguments ≡ na
 
 -- the fault is the help or the version that the arguments asked for
 abbrev pub IsHelpOrVersion : JobFault → Type 0
-IsHelpOrVersion (Words error) = (kind_of error ≡ DisplayHelp) ⊎ (kind_of error ≡ DisplayVersion)
+IsHelpOrVersion (Arguments error) = (kind_of error ≡ DisplayHelp) ⊎ (kind_of error ≡ DisplayVersion)
 IsHelpOrVersion fault = ⊥

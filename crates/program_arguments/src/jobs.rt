@@ -5,7 +5,7 @@ ghost use Rattle.program_arguments.specs.Requested.{IsReportedAs, IsHelpOrVersio
 ghost use Rattle.program_arguments.specs.FaultText.{fault_text_of};
 ghost use Rattle.program_arguments.specs.declared.jobs.JobFault.TheVariants.{Memory};
 
-use clap::Error as WordsError;
+use clap::Error as ClapError;
 use clap::error::ErrorKind;
 use std::alloc::AllocError;
 use std::fmt;
@@ -178,7 +178,7 @@ pub enum Separator {
 pub enum JobFault {
     /// The arguments are not the program's, or ask for help or the version, which is then the
     /// error's text.
-    Words(WordsError),
+    Arguments(ClapError),
     /// The value of `--start` is not one to four hexadecimal digits.
     Start,
     Memory,
@@ -214,7 +214,7 @@ impl JobFault {
         ensures { IsTrue result ↔ IsHelpOrVersion self.now }
     {
         match self {
-            JobFault::Words(error) => !error.use_stderr(),
+            JobFault::Arguments(error) => !error.use_stderr(),
             _ => false,
         }
     }
@@ -225,7 +225,7 @@ impl JobFault {
         ensures fits { IfSome result (λ text. length text.now ≤ 56) }
     {
         match self {
-            JobFault::Words(_) => None,
+            JobFault::Arguments(_) => None,
             JobFault::Start => Some("usage: --start takes one to four hexadecimal digits"),
             JobFault::Memory => Some("out of memory"),
             JobFault::Tracks => Some("usage: --tracks takes 35 or 40 and no IMAGE"),
@@ -247,19 +247,19 @@ impl JobFault {
 impl fmt::Display for JobFault {
     fn fmt<W: fmt::Write>(&self, f: &mut fmt::Formatter<W>) -> fmt::Result {
         match self {
-            JobFault::Words(error) => error.fmt(f),
+            JobFault::Arguments(error) => error.fmt(f),
             fault => f.write_str(fault.text().unwrap_or_default()),
         }
     }
 }
 
-impl From<WordsError> for JobFault {
+impl From<ClapError> for JobFault {
     ghost from_gives = { λ error fault. IsReportedAs error fault };
 
-    fn from(error: WordsError) -> JobFault {
+    fn from(error: ClapError) -> JobFault {
         match error.kind() {
             ErrorKind::OutOfMemory => JobFault::Memory,
-            _ => JobFault::Words(error),
+            _ => JobFault::Arguments(error),
         }
     }
 }

@@ -10,10 +10,10 @@ mod help;
 mod jobs;
 mod merging;
 mod reading;
+mod refusals;
 mod rows;
 mod subcommand;
 mod surveys;
-mod tips;
 mod values;
 
 pub use jobs::{

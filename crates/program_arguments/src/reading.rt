@@ -3,21 +3,19 @@
 ghost use Rattle.std.specs.Prelude.{◌≡◌, IfOk, IfErr, IfSome, MatchOption, codes, drop, map};
 ghost use Rattle.std.specs.Char.{is_ascii_hexdigit};
 ghost use Rattle.std.specs.List.{list_all};
-ghost use Rattle.clap.specs.Words.{found_of, first_of, kind_of, rows_of};
-ghost use Rattle.clap.specs.declared.error.kind.ErrorKind.{ErrorKind};
-ghost use Rattle.program_arguments.specs.Requested.{GoesOnWith, HasBoth, IsJob, IsJobOf, IsFault, IsFaultOf, IsFaultOfKind};
+ghost use Rattle.clap.specs.Words.{found_of, first_of, rows_of};
+ghost use Rattle.program_arguments.specs.Requested.{GoesOnWith, HasBoth, IsJob, IsJobOf, IsFault, IsFaultOf};
 ghost use Rattle.program_arguments.specs.Start.{IsAddress, address_of, IsStartBy, HasNoAddress};
 ghost use Rattle.program_arguments.specs.Tracks.{track_count, IsTracksBy, HasNoTracks};
 ghost use Rattle.program_arguments.specs.declared.jobs.JobFault.TheVariants.{Start, Tracks};
 
 use crate::command;
 use crate::jobs::{Job, JobFault};
+use crate::refusals::refusal;
 use crate::subcommand::Subcommand;
-use crate::tips::{message_of, with_tip};
 use crate::values::{given, has_flag, value, values};
-use clap::error::ErrorKind;
-use clap::{ArgMatches, Error};
-use std::alloc::{AllocError, Global};
+use clap::ArgMatches;
+use std::alloc::Global;
 
 /// The address at which programs are loaded if the arguments give no other.
 const DEFAULT_START: u16 = 0x0801;
@@ -31,7 +29,7 @@ const ADDRESS_DIGITS: usize = 4;
 /// Returns the job that the arguments of the process ask for, of which the first is the program's
 /// name.
 ///
-/// `Words` comes if and only if the arguments are not the program's, or ask for help or the
+/// `Arguments` comes if and only if the arguments are not the program's, or ask for help or the
 /// version. The other faults come in this order, each if and only if no earlier one does: `Start`
 /// if the value of `--start` is not one to four hexadecimal digits; `Tracks` if the value of
 /// `--tracks` is neither 35 nor 40, or there is an image too; `Both` if there are both `--resume`
@@ -87,7 +85,7 @@ fn subcommand_job(
     let command = subcommand.command(alloc)?;
     match command.try_get_matches_from(after_program(arguments)) {
         Ok(arguments) => subcommand.job(alloc, &arguments),
-        Err(error) => Err(explained(alloc, arguments, subcommand, error)),
+        Err(error) => Err(refusal(alloc, arguments, Some(subcommand), error)),
     }
 }
 
@@ -99,7 +97,7 @@ fn program_job(alloc: Global, arguments: &[&str]) -> Result<Job, JobFault>
 {
     let matches = match command::d64sh(alloc)?.try_get_matches_from(arguments) {
         Ok(matches) => matches,
-        Err(error) => return Err(reported(with_tip(alloc, arguments, error))),
+        Err(error) => return Err(refusal(alloc, arguments, None, error)),
     };
     let Some((name, arguments)) = matches.subcommand() else {
         unreachable!()
@@ -108,42 +106,6 @@ fn program_job(alloc: Global, arguments: &[&str]) -> Result<Job, JobFault>
         unreachable!()
     };
     subcommand.job(alloc, arguments)
-}
-
-/// Returns the fault for an error of a subcommand, with its usage if `clap` prints none, or with a
-/// tip if `shell` was probably meant otherwise.
-fn explained(alloc: Global, arguments: &[&str], subcommand: Subcommand, error: Error) -> JobFault
-    ensures { IsFaultOfKind (kind_of error) result }
-{
-    if error.kind() == ErrorKind::InvalidValue {
-        reported(with_usage(alloc, subcommand, error))
-    } else {
-        reported(with_tip(alloc, arguments, error))
-    }
-}
-
-/// Returns the fault for an error that was made, or for the memory that it lacked.
-fn reported(error: Result<Error, AllocError>) -> JobFault
-    ensures { (kind : ErrorKind) → IfOk error (λ made. kind_of made ≡ kind) → IsFaultOfKind kind result }
-{
-    match error {
-        Ok(made) => JobFault::from(made),
-        Err(lacking) => JobFault::from(lacking),
-    }
-}
-
-/// Returns the error that an option lacks its value, with the usage of the subcommand: `clap`
-/// prints no usage for that error.
-fn with_usage(alloc: Global, subcommand: Subcommand, error: Error) -> Result<Error, AllocError>
-    ensures { IfOk result (λ reported. kind_of reported ≡ kind_of error) }
-{
-    let text = format!(in alloc; "{error}")?;
-    command::error(
-        alloc,
-        subcommand.help().usage,
-        error.kind(),
-        message_of(text.as_str()),
-    )
 }
 
 /// Returns the job that `shell` with these matches asks for.

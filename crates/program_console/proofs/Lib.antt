@@ -1,1 +1,2 @@
 mod Errors
+mod ReportNames

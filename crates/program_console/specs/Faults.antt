@@ -7,7 +7,7 @@ use Rattle.host_storage.specs.declared.host.HostFault.TheVariants as files
 use Rattle.program_console.specs.declared.stream_fault.StreamFault.{StreamFault}
 use Rattle.program_console.specs.declared.stream_fault.StreamFault.TheVariants as streams
 use Rattle.program_console.specs.declared.program_fault.ProgramFault.{ProgramFault}
-use Rattle.program_console.specs.declared.program_fault.ProgramFault.TheVariants.{UnreadableWords, WrongLength, UnreadableImage, UnreadableSession, NoSession, Read, Write, Memory}
+use Rattle.program_console.specs.declared.program_fault.ProgramFault.TheVariants.{UnreadableArgument, WrongLength, UnreadableImage, UnreadableSession, NoSession, Read, Write, Memory}
 
 -- the fault for a file that cannot be fetched: the file is unreadable, or memory ran out
 abbrev pub fault_of_file : ProgramFault → HostFault → ProgramFault
@@ -22,7 +22,7 @@ fault_of_stream streams.Memory = Memory
 
 -- the text of a fault, without its number if it has one
 abbrev pub fault_begin : ProgramFault → List ℕ
-fault_begin UnreadableWords = codes "usage: an argument is not UTF-8"
+fault_begin UnreadableArgument = codes "usage: an argument is not UTF-8"
 fault_begin (WrongLength length) = codes "image: wrong length "
 fault_begin UnreadableImage = codes "image: cannot be read"
 fault_begin UnreadableSession = codes "session: cannot be read"

@@ -26,7 +26,7 @@ pub use no_job::report_no_job;
 pub use program_fault::ProgramFault;
 pub use progress::{ProgressLine, WatchedHost, WipingWriter};
 pub use reason::{Reason, push_known_reason, reason_of, reason_unwritten};
-pub use requested::{asks_for_program, requested_job};
+pub use requested::{asks_for_program, asks_for_report, requested_job};
 pub use stream_fault::StreamFault;
 pub use unread_output::{MarkingWriter, QuietWriter};
 pub use within_limit::WithinLimit;

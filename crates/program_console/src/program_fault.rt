@@ -1,10 +1,10 @@
 //! `ProgramFault`: what stops the program, and the lines that report it.
-ghost use Rattle.std.specs.Prelude.{◌≡◌, ◌≤◌, ◌+◌, ◌++◌, Bool, false, length};
+ghost use Rattle.std.specs.Prelude.{◌≡◌, ◌≢◌, ◌↔◌, ◌≤◌, ◌+◌, ◌++◌, Bool, false, length};
 ghost use Rattle.arrayvec.specs.ArrayVec.{array_vec_len};
 ghost use Rattle.program_console.specs.Outside.{account_at};
 ghost use Rattle.host_storage.specs.Output.{account_of};
 ghost use Rattle.program_console.specs.Faults.{Reports, ReportsText, fault_of_file, fault_of_stream, program_fault_text, fault_begin, line_with};
-ghost use Rattle.program_console.specs.declared.program_fault.ProgramFault.TheVariants.{Memory};
+ghost use Rattle.program_console.specs.declared.program_fault.ProgramFault.TheVariants.{Memory, UnreadableArgument};
 
 use crate::exit_status::NOT_RUN;
 use crate::stream_fault::StreamFault;
@@ -12,7 +12,7 @@ use arrayvec::ArrayVec;
 use host_storage::{HostFault, OutputStream};
 use itoa::Buffer;
 use std::alloc::AllocError;
-use std::io::Write;
+use std::io::{ErrorKind, Write};
 use thiserror::Error;
 
 /// The most bytes of the line that reports a fault.
@@ -24,7 +24,7 @@ const MAX_FAULT_LINE: usize = 64;
 #[error("{}", self.text())]
 pub enum ProgramFault {
     /// The arguments of the process are not UTF-8.
-    UnreadableWords,
+    UnreadableArgument,
     /// The image file has this many bytes; an image has 174,848 or 196,608.
     #[error("{}{}", self.text(), .0)]
     WrongLength(usize),
@@ -85,7 +85,7 @@ impl ProgramFault {
         ensures fits { length result.now ≤ 36 }
     {
         match self {
-            ProgramFault::UnreadableWords => "usage: an argument is not UTF-8",
+            ProgramFault::UnreadableArgument => "usage: an argument is not UTF-8",
             ProgramFault::WrongLength(_) => "image: wrong length ",
             ProgramFault::UnreadableImage => "image: cannot be read",
             ProgramFault::UnreadableSession => "session: cannot be read",
@@ -93,6 +93,18 @@ impl ProgramFault {
             ProgramFault::Read => "read fault",
             ProgramFault::Write => "write fault",
             ProgramFault::Memory => "out of memory",
+        }
+    }
+
+    /// Returns the fault for arguments of the process that cannot be had, by the kind of the
+    /// system's error: memory ran out, or one of them is not UTF-8.
+    pub fn of_arguments(kind: ErrorKind) -> ProgramFault
+        ensures memory { (result ≡ Memory) ↔ (kind ≡ ErrorKind.OutOfMemory) }
+        ensures text { kind ≢ ErrorKind.OutOfMemory → result ≡ UnreadableArgument }
+    {
+        match kind {
+            ErrorKind::OutOfMemory => ProgramFault::Memory,
+            _ => ProgramFault::UnreadableArgument,
         }
     }
 

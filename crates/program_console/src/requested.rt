@@ -1,12 +1,13 @@
 //! The job that arguments ask for, or a fault whose text has them as they are shown.
 ghost use Rattle.std.specs.Prelude.{◌≡◌, ◌↔◌, List, ℕ, IfErr, IfOk, IfSome, IsTrue, false, map, string_bytes};
-ghost use Rattle.program_console.specs.RequestedJob.{IsErrorOf, named_arguments, shown_arguments};
+ghost use Rattle.program_console.specs.RequestedJob.{AsksForReport, IsErrorOf, named_arguments, shown_arguments};
 ghost use Rattle.program_arguments.specs.ProgramJobs.{AsksForProgram, IsReadAsForProgram};
 ghost use Rattle.host_storage.specs.Shown.{shown_name};
-ghost use Rattle.program_arguments.specs.Requested.{IsFault, IsJob};
+ghost use Rattle.program_arguments.specs.Requested.{IsFault, IsJob, IsOneOf};
+ghost use Rattle.program_arguments.specs.Subcommands.{reports};
 
 use host_storage::push_shown;
-use program_arguments::{Job, JobFault, job};
+use program_arguments::{Job, JobFault, Subcommand, job};
 use std::alloc::{AllocError, Global};
 
 /// Returns the job that the arguments after the program's name ask for. The text of an error of
@@ -30,6 +31,26 @@ pub fn asks_for_program(alloc: Global, arguments: &[&str]) -> Result<bool, Alloc
 {
     let read = named_job(alloc, arguments);
     is_read_as_for_program(&read).ok_or(AllocError)
+}
+
+/// Whether the arguments begin with a subcommand whose output may go unread without a fault.
+pub fn asks_for_report(arguments: &[&str]) -> bool
+    ensures { IsTrue result ↔ AsksForReport (map (λ argument. argument.now) arguments.now) }
+{
+    match arguments {
+        [name, ..] => is_report(name),
+        [] => false,
+    }
+}
+
+/// Whether this is the name of such a subcommand.
+fn is_report(name: &str) -> bool
+    ensures { IsTrue result ↔ IsOneOf reports name.now }
+{
+    match Subcommand::named(name) {
+        Some(subcommand) => subcommand.is_report(),
+        None => false,
+    }
 }
 
 /// Whether arguments were read as a job that is to write a program to the output, or None if memory
@@ -82,7 +103,7 @@ fn has_arguments(fault: &JobFault) -> bool
     ensures { result ≡ false → (arguments : List (List ℕ)) → IsErrorOf arguments fault.now }
 {
     match fault {
-        JobFault::Words(_) => !fault.is_help_or_version(),
+        JobFault::Arguments(_) => !fault.is_help_or_version(),
         _ => false,
     }
 }
@@ -121,7 +142,7 @@ fn are_alike(fault: &JobFault, other: &JobFault) -> bool
     ensures { IsTrue result → (requested : List (List ℕ)) → IsFault requested fault.now → IsFault requested other.now }
 {
     match (fault, other) {
-        (JobFault::Words(error), JobFault::Words(other)) => error.kind() == other.kind(),
+        (JobFault::Arguments(error), JobFault::Arguments(other)) => error.kind() == other.kind(),
         _ => false,
     }
 }

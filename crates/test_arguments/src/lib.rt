@@ -5,4 +5,4 @@
 #![tactic(auto)]
 
 #[cfg(test)]
-mod words;
+mod rows;

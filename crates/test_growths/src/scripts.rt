@@ -152,7 +152,7 @@ fn add_all(text: &mut String) -> Result<(), AllocError> {
     add(
         text,
         &[
-            ProgramFault::UnreadableWords,
+            ProgramFault::UnreadableArgument,
             ProgramFault::WrongLength(9),
             ProgramFault::UnreadableImage,
             ProgramFault::UnreadableSession,

@@ -8,7 +8,7 @@ use Rattle.program_arguments.proofs.reading.program_job.Goals as goal
 pub returns-in-Err-clause-fault : goal.returns-in-Err-clause-fault
 returns-in-Err-clause-fault c =
     let kinds = c.in-Err.ensures.kinds (command_is_free c.in_ok-d64sh.field-0 [] c.in_ok-d64sh.ensures.0) in
-    reported _ c.in-Err.error c.reported.result (rw (← c.in_ok-d64sh.ensures.0) kinds) (c.reported.ensures _ c.with_tip.ensures)
+    reported _ c.in-Err.error c.refusal.result (rw (← c.in_ok-d64sh.ensures.0) kinds) c.refusal.ensures
 
 pub unreachable-requires : goal.unreachable-requires
 unreachable-requires c =

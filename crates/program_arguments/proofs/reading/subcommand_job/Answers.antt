@@ -57,4 +57,4 @@ pub returns-in-Err-clause-fault : goal.returns-in-Err-clause-fault
 returns-in-Err-clause-fault c =
     let is_app = c.in_ok-command.ensures.0 in
     let kinds = c.in-Err.ensures.kinds (is_free _ _ _ _ _ c.requires.1 c.after_program.ensures is_app) in
-    reported _ c.in-Err.error c.explained.result (rw (← fault_is _ _ _ _ _ c.requires.1 c.after_program.ensures is_app) kinds) c.explained.ensures
+    reported _ c.in-Err.error c.refusal.result (rw (← fault_is _ _ _ _ _ c.requires.1 c.after_program.ensures is_app) kinds) c.refusal.ensures

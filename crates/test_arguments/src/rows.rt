@@ -206,20 +206,20 @@ catalogue|--help => Example: d64sh catalogue --maps *.d64 >disks.html
 
 /// Returns the program's name and the arguments before ` => ` in a row, and the text after it.
 fn parted<'a>(alloc: Global, row: &'a str) -> Result<(Vec<&'a str>, &'a str), Fail> {
-    let (arguments, wanted) = row.split_once(" => ").ok_or("a row without an end")?;
-    let mut words = Vec::new(alloc);
-    words.push("d64sh")?;
-    for argument in arguments.split('|') {
-        words.push(argument)?;
+    let (given, wanted) = row.split_once(" => ").ok_or("a row without an end")?;
+    let mut arguments = Vec::new(alloc);
+    arguments.push("d64sh")?;
+    for argument in given.split('|') {
+        arguments.push(argument)?;
     }
-    Ok((words, wanted))
+    Ok((arguments, wanted))
 }
 
 #[test]
 fn takes_arguments_for_jobs(rt: HostRuntime) -> Result<(), Fail> {
     for row in JOBS.lines() {
-        let (words, wanted) = parted(rt.alloc(), row)?;
-        let job = job(rt.alloc(), words.as_slice())?;
+        let (arguments, wanted) = parted(rt.alloc(), row)?;
+        let job = job(rt.alloc(), arguments.as_slice())?;
         let shown = format!(in rt.alloc(); "{job:?}")?;
         assert_eq!(rt; shown.as_str(), wanted);
     }
@@ -229,11 +229,11 @@ fn takes_arguments_for_jobs(rt: HostRuntime) -> Result<(), Fail> {
 /// Whether the text for these arguments has this line, and whether the arguments asked for it.
 fn is_shown(
     alloc: Global,
-    words: &[&str],
+    arguments: &[&str],
     line: &str,
     is_help_or_version: bool,
 ) -> Result<bool, Fail> {
-    let Err(fault) = job(alloc, words) else {
+    let Err(fault) = job(alloc, arguments) else {
         return Ok(false);
     };
     let text = format!(in alloc; "{fault}")?;
@@ -248,8 +248,8 @@ fn first_unshown<'a>(
     is_help_or_version: bool,
 ) -> Result<Option<&'a str>, Fail> {
     for row in rows.lines() {
-        let (words, line) = parted(alloc, row)?;
-        if !is_shown(alloc, words.as_slice(), line, is_help_or_version)? {
+        let (arguments, line) = parted(alloc, row)?;
+        if !is_shown(alloc, arguments.as_slice(), line, is_help_or_version)? {
             return Ok(Some(row));
         }
     }
@@ -270,8 +270,8 @@ fn shows_help_and_version(rt: HostRuntime) -> Result<(), Fail> {
 
 #[test]
 fn wants_a_subcommand(rt: HostRuntime) -> Result<(), Fail> {
-    for words in [&[][..], &["d64sh"]] {
-        assert!(rt; is_shown(rt.alloc(), words, "Usage: d64sh <COMMAND>", false)?);
+    for arguments in [&[][..], &["d64sh"]] {
+        assert!(rt; is_shown(rt.alloc(), arguments, "Usage: d64sh <COMMAND>", false)?);
     }
     Ok(())
 }
