@@ -1,18 +1,14 @@
 -- Lists of arguments, and of their texts.
 use Rattle.std.proofs.Common.{◌≡◌, ◌≤◌, ◌+◌, List, [], ◌∷◌, ◌++◌, map, length, Bool, true, false, not, cond, nat_lt, Some, None, refl, ap, arith}
 use Rattle.std.specs.Prelude.{position, unwrap_or}
-use Rattle.std.specs.List.{flat_map, join_by, position_or_len, prefix_len}
+use Rattle.std.specs.List.{flat_map, position_or_len, prefix_len}
 use Rattle.std.proofs.lemmas.Bool.{ltb-false}
 use Rattle.std.proofs.lemmas.List.Sums.{prefix_len-le-length}
 
--- what is made of each text is what is made of each argument
-flat_map_texts : {X Y A : Type 0} (f : X → Y) (g : Y → List A) (xs : List X) → flat_map (λ x. g (f x)) xs ≡ flat_map g (map f xs)
+-- what is made of each argument is what is made of each text
+pub flat_map_texts : {X Y A : Type 0} (f : X → Y) (g : Y → List A) (xs : List X) → flat_map (λ x. g (f x)) xs ≡ flat_map g (map f xs)
 flat_map_texts f g [] = refl
 flat_map_texts f g (x ∷ xs) = ap (λ more. g (f x) ++ more) (flat_map_texts f g xs)
-
-pub join_texts : {X A : Type 0} (f : X → List A) (between : List A) (xs : List X) → join_by f between xs ≡ join_by (λ y. y) between (map f xs)
-join_texts f between [] = refl
-join_texts f between (x ∷ xs) = ap (λ more. f x ++ more) (flat_map_texts f (λ y. between ++ y) xs)
 
 passed_of_text : {X Y : Type 0} (f : X → Y) (p : Y → Bool) (xs : List X) → prefix_len (λ x. p (f x)) xs ≡ prefix_len p (map f xs)
 passed_of_text f p [] = refl

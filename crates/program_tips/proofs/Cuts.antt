@@ -3,7 +3,7 @@ use Rattle.std.proofs.Common.{◌≡◌, ◌≢◌, ℕ, suc, ◌+◌, ◌-◌, 
 use Rattle.std.specs.Char.{encode_utf8}
 use Rattle.std.specs.Str.{IsUtf8, chars}
 use Rattle.std.proofs.lemmas.Str.{chars-nil, chars_past_char}
-use Rattle.program_tips.specs.Tip.{cut_to}
+use Rattle.program_tips.specs.Tip.{cut_to, typed}
 
 cut_none : (most : ℕ) → cut_to most [] ≡ []
 cut_none most = refl
@@ -16,9 +16,9 @@ no_more count full = omega (arith, full)
 
 -- a character is taken
 pub next_cut : (before whole left more : List ℕ) (count character : ℕ) → IsUtf8 left → left ≡ encode_utf8 character ++ more → count ≤ 64 → count ≢ 64
-    → before ++ cut_to (64 - count) (chars left) ≡ whole → (before ++ encode_utf8 character) ++ cut_to (64 - (count + 1)) (chars more) ≡ whole
+    → before ++ cut_to (64 - count) (chars left) ≡ whole → (before ++ typed character) ++ cut_to (64 - (count + 1)) (chars more) ≡ whole
 next_cut before whole left more count character valid begins below other so =
-    append_assoc before (encode_utf8 character) (cut_to (64 - (count + 1)) (chars more))
+    append_assoc before (typed character) (cut_to (64 - (count + 1)) (chars more))
     ∙ ap (λ (text : List ℕ). before ++ text) (sym (ap (cut_to (64 - count)) (chars_past_char left more character valid begins)
     ∙ ap (λ (most : ℕ). cut_to most (character ∷ chars more)) (one_more count below other)))
     ∙ so

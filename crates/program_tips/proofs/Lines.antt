@@ -1,5 +1,5 @@
 -- The first line of a text.
-use Rattle.std.proofs.Common.{◌≡◌, ℕ, List, [], ◌∷◌, Option, Some, None, Bor, sym}
+use Rattle.std.proofs.Common.{◌≡◌, ℕ, List, [], ◌∷◌, Option, Some, None, Bor}
 use Rattle.std.specs.Prelude.{unwrap_or}
 use Rattle.std.specs.Iterator.{AlwaysYields}
 use Rattle.program_tips.specs.Message.{first_or_empty}

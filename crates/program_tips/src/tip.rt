@@ -2,7 +2,7 @@
 ghost use Rattle.std.specs.Prelude.{◌≡◌, ◌++◌, IfOk, OnOk, map, string_bytes};
 ghost use Rattle.std.specs.List.{before_first, position, position_or_len};
 ghost use Rattle.program_tips.specs.Meant.{is_option};
-ghost use Rattle.program_tips.specs.Tip.{cut, has_meaning, is_bare, is_quoted, spaced_arguments, meant_line, dash_c_text, shell_argument, shell_text, tip_about, tip_start, tip_text};
+ghost use Rattle.program_tips.specs.Tip.{cut, dash_c_text, has_byte, has_meaning, is_bare, is_quoted, line_argument, line_arguments, line_of_arguments, meant_line, needs_quotes, shell_argument, shell_text, tip_about, tip_start, tip_text, typed};
 
 use crate::meant::{Meant, is_option};
 use std::alloc::{AllocError, Global};
@@ -27,18 +27,64 @@ impl<'a> Meant<'a> {
 fn meant_line(alloc: Global, arguments: &[&str]) -> Result<String, AllocError>
     ensures { IfOk result (λ line. string_bytes line ≡ meant_line (map (λ argument. argument.now) arguments.now)) }
 {
-    let line = spaced_arguments(alloc, before_options(arguments))?;
+    let line = line_of_arguments(alloc, before_options(arguments))?;
     if line.is_empty() {
         return String::from_str(alloc, "list");
     }
     Ok(line)
 }
 
-/// Returns arguments with a space between each two.
-fn spaced_arguments(alloc: Global, arguments: &[&str]) -> Result<String, AllocError>
-    ensures { IfOk result (λ line. string_bytes line ≡ spaced_arguments (map (λ argument. argument.now) arguments.now)) }
+/// Returns the line that arguments make. The first begins it as it is, since it may be all of the
+/// line.
+fn line_of_arguments(alloc: Global, arguments: &[&str]) -> Result<String, AllocError>
+    ensures { IfOk result (λ line. string_bytes line ≡ line_of_arguments (map (λ argument. argument.now) arguments.now)) }
 {
-    arguments.join(alloc, " ")
+    let [first, rest @ ..] = arguments else {
+        return Ok(String::new(alloc));
+    };
+    let mut line = String::from_str(alloc, first)?;
+    push_arguments(&mut line, rest)?;
+    Ok(line)
+}
+
+/// Appends arguments to a line, each after a space.
+fn push_arguments(line: &mut String, arguments: &[&str]) -> Result<(), AllocError>
+    ensures { OnOk result (string_bytes line.new ≡ string_bytes line.old ++ line_arguments (map (λ argument. argument.now) arguments.now)) }
+{
+    for argument in arguments {
+        push_line_argument(line, argument)?;
+    }
+    Ok(())
+}
+
+/// Appends an argument to a line, after a space: in quotes, if it would be none or several without.
+#[tactic(auto, unfolding(crate::specs::Tip::line_argument))]
+fn push_line_argument(line: &mut String, argument: &str) -> Result<(), AllocError>
+    ensures { OnOk result (string_bytes line.new ≡ string_bytes line.old ++ line_argument argument.now) }
+{
+    line.push_str(" ")?;
+    if !needs_quotes(argument) {
+        return line.push_str(argument);
+    }
+    line.push_str("\"")?;
+    line.push_str(argument)?;
+    line.push_str("\"")
+}
+
+/// Whether an argument is in quotes in a line: it is empty or has a space, and has no quote, which
+/// no argument of a line has.
+#[tactic(auto, unfolding(crate::specs::Tip::needs_quotes))]
+fn needs_quotes(argument: &str) -> bool
+    ensures { result ≡ needs_quotes argument.now }
+{
+    (argument.is_empty() || has_byte(argument, b' ')) && !has_byte(argument, b'"')
+}
+
+/// Whether an argument has a byte.
+fn has_byte(argument: &str, byte: u8) -> bool
+    ensures { result ≡ has_byte byte argument.now }
+{
+    argument.as_bytes().contains(&byte)
 }
 
 /// Returns the arguments before the first that is an option.
@@ -97,7 +143,7 @@ fn push_line(text: &mut String, line: &str) -> Result<(), AllocError>
     push_argument(text, line)
 }
 
-/// Appends an argument as a line for a shell of the host has it: between apostrophes unless all its
+/// Appends an argument as it is typed for a shell of the host: between apostrophes unless all its
 /// bytes are bare, and cut if it is long.
 #[tactic(auto, unfolding(crate::specs::Tip::shell_argument))]
 fn push_argument(text: &mut String, argument: &str) -> Result<(), AllocError>
@@ -142,7 +188,17 @@ fn push_cut(text: &mut String, argument: &str) -> Result<(), AllocError>
         if count == SHOWN_CHARACTERS {
             return text.push_str("..");
         }
-        text.push(character)?;
+        push_typed(text, character)?;
     }
     Ok(())
+}
+
+/// Appends a character as it is typed between apostrophes, of which it may be one.
+fn push_typed(text: &mut String, character: char) -> Result<(), AllocError>
+    ensures { OnOk result (string_bytes text.new ≡ string_bytes text.old ++ typed character) }
+{
+    match character {
+        '\'' => text.push_str("'\\''"),
+        _ => text.push(character),
+    }
 }

@@ -14,7 +14,7 @@ loop-count-preserved c =
     let steps = c.in-Some.ensures.steps in (
       IsUtf8-past_char _ _ _ c.loop-count.invariant.0 steps.0.0,
       omega (arith, steps.1, steps.2, c.loop-count.invariant.1, c.if-count-eq-SHOWN_CHARACTERS.false),
-      rw (c.in_ok-push.ensures.bytes, steps.2)
+      rw (c.in_ok-push_typed.ensures, steps.2)
           (next_cut _ _ _ _ _ _ c.loop-count.invariant.0 steps.0.0 c.loop-count.invariant.1 (λ full. c.if-count-eq-SHOWN_CHARACTERS.false (steps.1 ∙ full)) c.loop-count.invariant.2),
     )
 
