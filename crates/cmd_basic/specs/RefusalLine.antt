@@ -1,8 +1,8 @@
 -- The line of a refused input, in the form of compilers.
 use Rattle.std.specs.Prelude.{ℕ, ◌-◌, List, [], ◌++◌, length, take, codes, decimal, Option, unwrap_or}
 use Rattle.std.specs.Option.{option_map_or}
-use Rattle.script_text.specs.Status.{status_line}
-use Rattle.script_text.specs.declared.status.Status.{Status}
+use Rattle.script_lines.specs.Status.{status_line}
+use Rattle.script_lines.specs.declared.status.Status.{Status}
 use Rattle.host_storage.specs.Shown.{shown_name}
 
 -- the name of the input: that of its file, or `-` for the standard input

@@ -1,5 +1,5 @@
 -- What is printed of a text that is not a program: its faulty lines, in the form of compilers.
-use Rattle.std.specs.Prelude.{ℕ, ◌<◌, ◌-◌, ◌^◌, nat_le, if◌then◌else◌, List, [], ◌++◌, length, take, codes, Option, IfSome}
+use Rattle.std.specs.Prelude.{ℕ, ◌-◌, nat_le, if◌then◌else◌, List, [], ◌++◌, length, take, codes, Option}
 use Rattle.std.specs.List.{flat_map}
 use Rattle.cbm_text.specs.BasicText.{basic_fault_line}
 use Rattle.cbm_text.specs.Causes.{cause_text}
@@ -29,7 +29,3 @@ more_lines count = if nat_le count most_refused_lines then [] else codes "    an
 -- what is printed of a text with these faulty lines
 unfoldable pub refused_text : Option (List ℕ) → List FaultyLine → List ℕ
 refused_text name lines = flat_map (faulty_line name) (take most_refused_lines lines) ++ more_lines (length lines)
-
--- the number of the line has 32 bits
-abbrev pub HasSmallNumber : FaultyLine → Type 0
-HasSmallNumber line = IfSome (basic_fault_line line.fault) (λ number. number < 2 ^ 32)

@@ -3,7 +3,7 @@ use Rattle.std.specs.Prelude.{◌≡◌, ℕ, List, [], Option, Some, None, Resu
 use Rattle.std.specs.Io.KnownBytes.{Keeps}
 use Rattle.host_storage.specs.Input.{IsUnreadable, input_limit}
 use Rattle.host_storage.specs.Output.{Account, Writes}
-use Rattle.script_text.specs.Status.{status_line}
+use Rattle.script_lines.specs.Status.{status_line}
 use Rattle.host_storage.specs.Files.{Files, HostState}
 use Rattle.host_storage.specs.declared.host.HostFault.{HostFault}
 use Rattle.host_storage.specs.declared.host.HostFault.TheVariants as files

@@ -1,7 +1,7 @@
 -- What the tools make of an input, and what they write.
-use Rattle.std.specs.Prelude.{◌≡◌, ◌⊎◌, ℕ, ◌<◌, ◌≤◌, ◌^◌, Bool, true, false, List, length, Option, IfSome, Result, Ok, Err, ⊤}
+use Rattle.std.specs.Prelude.{◌≡◌, ◌⊎◌, ℕ, ◌≤◌, Bool, true, false, List, length, Option, IfSome, Result, Ok, Err, ⊤}
 use Rattle.std.specs.Io.KnownBytes.{Appends, Consumes, IsAtEnd, Keeps}
-use Rattle.cbm_text.specs.BasicText.{IsFileOf, IsFirstBasicFault, NamesLine, basic_fault_line}
+use Rattle.cbm_text.specs.BasicText.{IsFileOf, IsFirstBasicFault, NamesLine}
 use Rattle.cbm_text.specs.Listing.{Lists}
 use Rattle.cbm_text.specs.ListFault.{ListsNot}
 use Rattle.cbm_text.specs.declared.fault.ListFault.{ListFault}
@@ -101,14 +101,6 @@ RanTool {A} tool reader left old new (Err Write) = RanWholly {A = A} tool reader
 RanTool {A} tool reader left old new (Err (Memory error)) = Keeps old new
 RanTool {A} tool reader left old new (Err (Text fault)) = RanWholly {A = A} tool reader left old new (Err (Text fault))
 RanTool {A} tool reader left old new (Err (NotBasic fault)) = RanWholly {A = A} tool reader left old new (Err (NotBasic fault))
-
--- the line number in a fault of a text has 32 bits
-abbrev pub HasSmallLine : ToolFault → Type 0
-HasSmallLine (Text fault) = IfSome (basic_fault_line fault) (λ line. line < 2 ^ 32)
-HasSmallLine (NotBasic fault) = ⊤
-HasSmallLine (Memory error) = ⊤
-HasSmallLine Read = ⊤
-HasSmallLine Write = ⊤
 
 -- a tool returns a fault of writing if and only if its output has failed
 abbrev pub WritesWith : {A : Type 0} → Result A ToolFault → Bool → Bool → Type 0

@@ -5,7 +5,7 @@ ghost use Rattle.cmd_basic.specs.RefusalLine.{refusal_place, refusal_line, statu
 
 use host_storage::push_shown;
 use out_messages::push_number;
-use script_text::status::Status;
+use script_lines::Status;
 use std::alloc::AllocError;
 
 /// Appends the line of a refusal: the name of the input, the number of the refused line, if it is

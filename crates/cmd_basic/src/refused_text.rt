@@ -1,15 +1,14 @@
 //! What is printed of a text that is not a program: its faulty lines, in the form of compilers.
-ghost use Rattle.std.specs.Prelude.{◌≡◌, ◌-◌, ◌≤◌, ◌<◌, ◌^◌, ◌++◌, All, IfOk, IfSome, List, OnOk, [], codes, length, option_copied};
+ghost use Rattle.std.specs.Prelude.{◌≡◌, ◌-◌, ◌++◌, IfOk, List, OnOk, [], codes, option_copied};
 ghost use Rattle.std.specs.List.{flat_map};
 ghost use Rattle.cbm_text.specs.Causes.{cause_text};
 ghost use Rattle.cbm_text.specs.FaultyLines.{AreFaultyIn};
-ghost use Rattle.host_storage.specs.Input.{input_limit};
-ghost use Rattle.cmd_basic.specs.RefusedText.{HasSmallNumber, faulty_line, indented, more_lines, refused_text};
+ghost use Rattle.cmd_basic.specs.RefusedText.{faulty_line, indented, more_lines, refused_text};
 
 use crate::refusal_line::push_refusal_line;
 use cbm_text::{Cause, FaultyLine, faulty_lines};
 use out_messages::{push_count, shown_start};
-use script_lines::status_from::of_basic_fault;
+use script_lines::Status;
 use std::alloc::{AllocError, Global};
 
 /// The most faulty lines of a text that are printed.
@@ -23,7 +22,6 @@ pub(crate) fn refused_text(
     start: u16,
     text: &[u8],
 ) -> Result<Vec<u8>, AllocError>
-    requires { length text.now ≤ input_limit }
     ensures { IfOk result (λ out. (all : List FaultyLine) × AreFaultyIn start text.now all × (out.items ≡ refused_text (option_copied name.entry) all)) }
 {
     let found = faulty_lines(alloc, start, text, MOST_LINES)?;
@@ -40,7 +38,6 @@ fn push_faulty_lines(
     name: Option<&str>,
     lines: &[FaultyLine<'_>],
 ) -> Result<(), AllocError>
-    requires { All HasSmallNumber lines.now }
     ensures { OnOk result (out.new.items ≡ out.old.items ++ flat_map (faulty_line (option_copied name.entry)) lines.now) }
 {
     for line in lines {
@@ -57,11 +54,10 @@ fn push_faulty_line(
     name: Option<&str>,
     line: &FaultyLine<'_>,
 ) -> Result<(), AllocError>
-    requires { HasSmallNumber line.now }
     ensures { OnOk result (out.new.items ≡ out.old.items ++ faulty_line (option_copied name.entry) line.now) }
 {
     let cause = cause_text(alloc, line.cause)?;
-    let status = of_basic_fault(line.fault);
+    let status = Status::from(line.fault);
     push_refusal_line(out, name, line.fault.line(), status, cause.as_slice())?;
     let start = shown_start(alloc, line.text)?;
     push_indented(out, start.as_slice())

@@ -1,7 +1,7 @@
 //! A tool whose result goes to a host file: it is stored whole or not at all, and a refused input
 //! is reported in the form of compilers.
 ghost use Rattle.std.specs.Prelude.{◌≡◌, ◌≤◌, ◌⊎◌, IfErr, IfOk, Ok, Err, Option, None, length, option_copied};
-ghost use Rattle.host_storage.specs.Input.{IsUnread, IsUnreadable, reading_of, input_limit};
+ghost use Rattle.host_storage.specs.Input.{IsUnread, IsUnreadable, reading_of};
 ghost use Rattle.program_console.specs.Reasons.{IsWriteReason, with_known_reason};
 ghost use Rattle.program_console.specs.Console.{IsFresh, SameStreams};
 ghost use Rattle.program_console.specs.Outside.{account_at, outside_at};
@@ -19,8 +19,8 @@ use out_messages::unwritten_line;
 use program_console::{
     ALL_ACCEPTED, Console, NOT_RUN, ProgramFault, SOME_REFUSED, push_known_reason, reason_unwritten,
 };
+use script_lines::Status;
 use script_lines::host_file::fetch;
-use script_lines::status_from::of_list_fault;
 use std::alloc::{AllocError, Global};
 use std::io::{Read, Write};
 
@@ -79,7 +79,6 @@ impl<'n> StoredTool<'n> {
         ensures input { input.new.reader.ghost_name ≡ input.old.reader.ghost_name }
         ensures bytes { IfOk result (λ bytes. TakesInput (option_copied self.entry.file) (R.remaining input.old.reader.now) (R.remaining input.new.reader.now) (H.state host.old) (H.state host.new) (Ok bytes.items)) }
         ensures fault { IfErr result (λ fault. TakesInput (option_copied self.entry.file) (R.remaining input.old.reader.now) (R.remaining input.new.reader.now) (H.state host.old) (H.state host.new) (Err fault)) }
-        ensures within { IfOk result (λ bytes. length bytes.items ≤ input_limit) }
         ensures reads { option_copied self.entry.file ≡ None → result ≡ Err ToolFault.Read → IsUnreadable (reading_of input.new.reads input.new.came input.new.has_failed) }
     {
         let Some(name) = self.file else {
@@ -118,7 +117,6 @@ impl<'n> StoredTool<'n> {
         host: &H,
         faults: &mut OutputStream<'_, F>,
     ) -> u8
-        requires { length bytes.now ≤ input_limit }
         ensures faults { faults.new.writer.ghost_name ≡ faults.old.writer.ghost_name }
         ensures status { result ≤ 2 }
         ensures reported { ReportsStored self.entry.tool (option_copied self.entry.file) bytes.now self.entry.target.now (H.state host.now).files outcome (account_at F.contents faults.old) (account_at F.contents faults.new) result }
@@ -141,7 +139,6 @@ impl<'n> StoredTool<'n> {
         text: &[u8],
         faults: &mut OutputStream<'_, F>,
     ) -> u8
-        requires { length text.now ≤ input_limit }
         ensures faults { faults.new.writer.ghost_name ≡ faults.old.writer.ghost_name }
         ensures status { (result ≡ 1) ⊎ (result ≡ 2) }
         ensures reported { ReportsFaultyLines (option_copied self.entry.file) (start_of self.entry.tool) text.now (account_at F.contents faults.old) (account_at F.contents faults.new) result }
@@ -168,7 +165,7 @@ impl<'n> StoredTool<'n> {
     {
         let mut line = Vec::new(alloc);
         let text = fault.text().as_bytes();
-        match push_refusal_line(&mut line, self.file, None, of_list_fault(fault), text) {
+        match push_refusal_line(&mut line, self.file, None, Status::from(fault), text) {
             Ok(()) => {
                 let _ = faults.write(line.as_slice());
                 SOME_REFUSED

@@ -1,20 +1,19 @@
 //! A tool on the input or on a file, to the output, and its exit status.
-ghost use Rattle.std.specs.Prelude.{◌≡◌, ◌≤◌, IfErr, IsOk, None, OnOk, option_copied, true};
+ghost use Rattle.std.specs.Prelude.{◌≡◌, ◌≤◌, IsOk, None, OnOk, option_copied, true};
 ghost use Rattle.host_storage.specs.Input.{reading_of};
 ghost use Rattle.host_storage.specs.Output.{Writes};
 ghost use Rattle.program_console.specs.Console.{IsDelivered, IsFresh, SameStreams};
 ghost use Rattle.program_console.specs.Outside.{account_at, outside_at};
-ghost use Rattle.script_text.specs.Status.{status_line};
+ghost use Rattle.script_lines.specs.Status.{status_line};
 ghost use Rattle.cmd_basic.specs.ToolRuns.{EndedConversion, RanToolOn, ReportsToolResult};
-ghost use Rattle.cmd_basic.specs.Tools.{ReadsWith, HasSmallLine, WritesWith};
+ghost use Rattle.cmd_basic.specs.Tools.{ReadsWith, WritesWith};
 
 use crate::stored_tool::StoredTool;
 use crate::tools::{Tool, ToolFault};
 use host_storage::{Host, HostFault, INPUT_BYTES, OutputStream};
 use program_console::{ALL_ACCEPTED, Console, ProgramFault, SOME_REFUSED};
+use script_lines::Status;
 use script_lines::host_file::fetch;
-use script_lines::status_from::{of_basic_fault, of_list_fault};
-use script_text::status::Status;
 use std::alloc::Global;
 use std::io::{Read, Write};
 
@@ -73,7 +72,6 @@ fn run_tool<R: Read, W: Write, F: Write, H: Host>(
     ensures ran { RanToolOn tool (option_copied name.entry)
         (outside_at R.remaining W.contents F.contents console.old (H.state host.old))
         (outside_at R.remaining W.contents F.contents console.new (H.state host.new)) result }
-    ensures line { IfErr result HasSmallLine }
     ensures reads { option_copied name.entry ≡ None → ReadsWith result (reading_of console.new.input.reads console.new.input.came console.new.input.has_failed) }
     ensures writes { WritesWith result console.old.outputs.output.has_failed console.new.outputs.output.has_failed }
     ensures delivered { OnOk result (console.new.outputs.output.is_delivered ≡ true) }
@@ -99,7 +97,6 @@ fn write_result<R: Read, W: Write, F: Write, H: Host>(
     ensures ran { RanToolOn tool (option_copied name.entry)
         (outside_at R.remaining W.contents F.contents console.old (H.state host.old))
         (outside_at R.remaining W.contents F.contents console.new (H.state host.new)) result }
-    ensures line { IfErr result HasSmallLine }
     ensures reads { option_copied name.entry ≡ None → ReadsWith result (reading_of console.new.input.reads console.new.input.came console.new.input.has_failed) }
     ensures writes { WritesWith result console.old.outputs.output.has_failed console.new.outputs.output.has_failed }
 {
@@ -115,7 +112,6 @@ fn write_result<R: Read, W: Write, F: Write, H: Host>(
 
 /// Reports a tool's result, and returns the exit status.
 fn report_result<F: Write>(outcome: Result<(), ToolFault>, faults: &mut OutputStream<'_, F>) -> u8
-    requires { IfErr outcome HasSmallLine }
     ensures faults { faults.new.writer.ghost_name ≡ faults.old.writer.ghost_name }
     ensures wrote { result ≡ 0 → IsOk outcome }
     ensures reported { ReportsToolResult outcome (account_at F.contents faults.old) (account_at F.contents faults.new) result }
@@ -123,8 +119,8 @@ fn report_result<F: Write>(outcome: Result<(), ToolFault>, faults: &mut OutputSt
 {
     match outcome {
         Ok(()) => ALL_ACCEPTED,
-        Err(ToolFault::Text(fault)) => report_refusal(of_basic_fault(fault), faults),
-        Err(ToolFault::NotBasic(fault)) => report_refusal(of_list_fault(fault), faults),
+        Err(ToolFault::Text(fault)) => report_refusal(Status::from(fault), faults),
+        Err(ToolFault::NotBasic(fault)) => report_refusal(Status::from(fault), faults),
         Err(ToolFault::Read) => ProgramFault::Read.report_on(faults),
         Err(ToolFault::Write) => ProgramFault::Write.report_on(faults),
         Err(ToolFault::Memory(_)) => ProgramFault::Memory.report_on(faults),

@@ -4,7 +4,7 @@
 ghost use Rattle.std.specs.Prelude.{◌≡◌, ◌≤◌, false, length, IfOk, IfErr, OnOk};
 ghost use Rattle.host_storage.specs.Input.{IsUnread, IsUnreadable, reading_of, input_limit};
 ghost use Rattle.cmd_basic.specs.declared.tools.ToolFault.TheVariants.{Read};
-ghost use Rattle.cmd_basic.specs.Tools.{ToolMakes, Refuses, HasRead, ReadsNot, HasWritten, ReadsWith, RanTool, HasSmallLine, WritesWith, start_of};
+ghost use Rattle.cmd_basic.specs.Tools.{ToolMakes, Refuses, HasRead, ReadsNot, HasWritten, ReadsWith, RanTool, WritesWith, start_of};
 
 use cbm_text::{BasicFault, ListFault, crunch, list};
 use host_storage::{InputStream, OutputStream};
@@ -82,7 +82,6 @@ impl Tool {
         ensures input { input.new.reader.ghost_name ≡ input.old.reader.ghost_name }
         ensures output { output.new.writer.ghost_name ≡ output.old.writer.ghost_name }
         ensures ran { RanTool self (R.remaining input.old.reader.now) (R.remaining input.new.reader.now) (W.contents output.old.writer.now) (W.contents output.new.writer.now) result }
-        ensures line { IfErr result HasSmallLine }
         ensures reads { ReadsWith result (reading_of input.new.reads input.new.came input.new.has_failed) }
         ensures writes { WritesWith result output.old.has_failed output.new.has_failed }
     {
@@ -97,10 +96,8 @@ impl Tool {
         input: &[u8],
         output: &mut OutputStream<'_, W>,
     ) -> Result<(), ToolFault>
-        requires { length input.now ≤ input_limit }
         ensures output { output.new.writer.ghost_name ≡ output.old.writer.ghost_name }
         ensures written { HasWritten self input.now (W.contents output.old.writer.now) (W.contents output.new.writer.now) result }
-        ensures line { IfErr result HasSmallLine }
         ensures writes { WritesWith result output.old.has_failed output.new.has_failed }
     {
         let made = self.output(alloc, input)?;

@@ -8,7 +8,7 @@ use Rattle.std.proofs.lemmas.List.{map-append, nil_from_length}
 use Rattle.host_storage.specs.Output.{AppendsPart}
 use Rattle.script_lines.specs.Line.{IsExecuted, IsSkipped}
 use Rattle.script_lines.specs.Act.{printed_bytes, LineResponse, World}
-use Rattle.script_text.specs.Status.{is_accepted}
+use Rattle.script_lines.specs.Status.{is_accepted}
 use Rattle.cmd_shell.specs.Transcript.{ends_script, RunOptions, RunProgress, Transcript, counted_progress}
 use Rattle.cmd_shell.specs.Runner.{ScriptState, first_progress, RanLines, StoppedAt}
 use Rattle.cmd_shell.specs.LineByLine.{KeepsRun, progress_of, RunsLine, StopsInLine, ended_line, lines_in}

@@ -43,8 +43,8 @@ use Rattle.script_lines.specs.Line.{refuse_by, leave, run, act_for, act_of_words
 use Rattle.cmd_shell.specs.ScriptLaws.{IsReachedIn, ScriptsAreRuns, IsBlockWrite, ScriptsKeepDisksSound}
 use Rattle.script_commands.specs.declared.observer.Refusals.{Refusals}
 use Rattle.cmd_shell.specs.Transcript.{RunOptions, RunProgress, Line, Transcript, IsSilent, counted_progress}
-use Rattle.script_text.specs.declared.status.Status.{Status}
-use Rattle.script_text.specs.declared.status.Status.TheVariants.{LongLine, UnknownCommand}
+use Rattle.script_lines.specs.declared.status.Status.{Status}
+use Rattle.script_lines.specs.declared.status.Status.TheVariants.{LongLine, UnknownCommand}
 
 -- what is known of the bytes that a call gives, whatever the host does
 abbrev Known : Call → List ℕ → Type 0

@@ -3,7 +3,7 @@ use Rattle.std.proofs.Common.{◌≡◌, ℕ, ◌+◌, List, [], ◌∷◌, ◌+
 use Rattle.std.specs.Prelude.{MatchBool, MatchOption}
 use Rattle.script_lines.specs.Act.{printed_bytes, Act, Ending, Does, LineResponse, World}
 use Rattle.script_lines.specs.Line.{act_of_line, IsSkipped, IsExecuted}
-use Rattle.script_text.specs.Status.{is_accepted}
+use Rattle.script_lines.specs.Status.{is_accepted}
 use Rattle.cmd_shell.specs.Transcript.{ends_script, RunOptions, RunProgress, Line, Transcript, IsSilent, counted_progress}
 
 -- a line that prints is one of the open run

@@ -2,8 +2,8 @@
 use Rattle.std.specs.Prelude.{◌≡◌, ℕ, ◌+◌, List, [], ◌∷◌, ◌++◌, Bool, MatchBool, MatchOption, Option, Some, None, if◌then◌else◌, ◌||◌, false, not}
 use Rattle.script_lines.specs.Act.{Does, LineResponse, World, printed_bytes}
 use Rattle.script_lines.specs.Line.{act_of_line}
-use Rattle.script_text.specs.Status.{is_accepted}
-use Rattle.script_text.specs.declared.status.Status.{Status}
+use Rattle.script_lines.specs.Status.{is_accepted}
+use Rattle.script_lines.specs.declared.status.Status.{Status}
 use Rattle.script_commands.specs.declared.observer.Refusals.{Refusals}
 use Rattle.script_commands.specs.declared.observer.Refusals.TheVariants.{GoOn, Stop}
 

@@ -3,7 +3,7 @@ ghost use Rattle.std.specs.Prelude.{◌≡◌, option_copied};
 ghost use Rattle.cmd_shell.specs.Transcript.{ends_script, home_of};
 
 use script_commands::Refusals;
-use script_text::status::Status;
+use script_lines::Status;
 
 /// How a script is run.
 #[derive(Clone, Copy)]

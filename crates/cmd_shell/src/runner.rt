@@ -15,11 +15,10 @@ use crate::run_options::{RunOptions, ends_script, home_of};
 use d64_undo::Session;
 use host_storage::{Host, InputStream, OutputStream, WriteFault};
 use script_commands::{Nobody, Observer, Refusals, execute_line};
-use script_lines::Response;
+use script_lines::{Response, Status};
 use script_text::held_line::HeldLine;
 use script_text::part_handler::PartHandler;
 use script_text::parts::{CutShort, cut_text, read_parts};
-use script_text::status::Status;
 use std::alloc::{AllocError, Global};
 use std::io::{Read, Write};
 use std::ops::ControlFlow;
@@ -58,7 +57,7 @@ struct Tally {
 
 impl Tally {
     ghost use Rattle.std.specs.Prelude.{if◌then◌else◌, ◌||◌};
-    ghost use Rattle.script_text.specs.Status.{is_accepted};
+    ghost use Rattle.script_lines.specs.Status.{is_accepted};
     ghost use Rattle.cmd_shell.specs.Transcript.{ends_script};
 
     /// The counts before the first line.

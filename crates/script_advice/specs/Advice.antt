@@ -3,12 +3,15 @@ use Rattle.std.specs.Prelude.{ℕ, Option, Some, ◌==◌, ◌-◌, nat_lt, if�
 use Rattle.std.specs.Option.{option_map_or}
 use Rattle.d64_image.specs.Disk.{Bytes}
 use Rattle.script_text.specs.Number.{number_of}
-use Rattle.script_text.specs.declared.status.Status.{Status}
-use Rattle.script_text.specs.declared.status.Status.TheVariants.{Done, FilesScratched, SyntaxError, UnknownCommand, LongLine, BadName, MissingArgument, WriteFileOpen, FileNotFound, FileExists, FileTypeMismatch, IllegalBlock, DirectoryError, DiskFull, HostFile, NothingToUndo, NothingToRedo, NotOneBlock, BasicText, NotBasic, FileLost, OutOfMemory}
+use Rattle.script_lines.specs.declared.status.Status.{Status}
+use Rattle.script_lines.specs.declared.status.Status.TheVariants.{Done, FilesScratched, SyntaxError, UnknownCommand, LongLine, BadName, MissingArgument, WriteFileOpen, FileNotFound, FileExists, FileTypeMismatch, IllegalBlock, DirectoryError, DiskFull, HostFile, NothingToUndo, NothingToRedo, NotOneBlock, BasicText, NotBasic, FileLost, OutOfMemory}
 use Rattle.script_advice.specs.LineParts.{LineParts}
 use Rattle.script_lines.specs.LineCommand.{command_named, most_arguments, usage}
 use Rattle.script_advice.specs.Hint.{hint_text}
-use Rattle.script_advice.specs.Faults.{basic_fault, condition_text, list_fault}
+use Rattle.script_advice.specs.Faults.{basic_fault, directory_fault}
+use Rattle.cbm_text.specs.ListFault.{list_fault_text}
+use Rattle.host_storage.specs.declared.host.HostFault.{HostFault}
+use Rattle.host_storage.specs.declared.host.HostFault.TheVariants.{Missing, TooLong}
 use Rattle.script_lines.specs.declared.line_command.LineCommand.{LineCommand}
 use Rattle.script_lines.specs.declared.line_command.LineCommand.TheVariants.{Block, BlockRead, BlockWrite, Crunch, Delete, Format, Keep, Name, Petcat, Read, Rename, Save, ShowText, Undelete, Write}
 use Rattle.script_advice.specs.declared.advice.Advice.{Advice}
@@ -138,13 +141,16 @@ abbrev pub wrong_block : LineParts → Option LineCommand → List Piece
 wrong_block parts (Some Block) = two_pieces (codes "the disk has no track ") First (codes " with a sector ") Second (codes ": sectors are numbered from 0, and there are 21 on tracks 1 to 17, 19 on 18 to 24, 18 on 25 to 30, then 17")
 wrong_block parts command = two_pieces (codes "the disk has no track ") Second (codes " with a sector ") Third (codes ": sectors are numbered from 0, and there are 21 on tracks 1 to 17, 19 on 18 to 24, 18 on 25 to 30, then 17")
 
--- a line whose host file has the fault with this number
-abbrev pub wrong_host_file : LineParts → Option LineCommand → ℕ → List Piece
+-- a host file has this fault
+abbrev pub host_fault : HostFault → Piece → List Piece
+host_fault Missing file = one_piece (codes "the host has no file \"") file (codes "\"")
+host_fault TooLong file = one_piece (codes "the file \"") file (codes "\" has more than 1048576 bytes")
+host_fault fault file = one_piece (codes "the file \"") file (codes "\" cannot be read or written")
+
+-- a line whose host file has this fault
+abbrev pub wrong_host_file : LineParts → Option LineCommand → HostFault → List Piece
 wrong_host_file parts command fault =
-    if parts.count == 1 then plain_pieces (codes "the image file cannot be written")
-    else if fault == 1 then one_piece (codes "the host has no file \"") (host_piece parts command) (codes "\"")
-    else if fault == 3 then one_piece (codes "the file \"") (host_piece parts command) (codes "\" has more than 1048576 bytes")
-    else one_piece (codes "the file \"") (host_piece parts command) (codes "\" cannot be read or written")
+    if parts.count == 1 then plain_pieces (codes "the image file cannot be written") else host_fault fault (host_piece parts command)
 
 -- the advice about a line of a command that was refused with a status
 abbrev pub advice_by : LineParts → Option LineCommand → Status → List Piece
@@ -158,14 +164,14 @@ advice_by parts command FileNotFound = missing_file command
 advice_by parts command FileExists = one_piece (codes "the disk already has a file named \"") (file_piece parts command) (codes "\"")
 advice_by parts command FileTypeMismatch = one_piece (codes "the file \"") (file_piece parts command) (codes "\" has the wrong type for this command")
 advice_by parts command (IllegalBlock track sector) = wrong_block parts command
-advice_by parts command (DirectoryError condition) = one_piece (codes "the disk is damaged: ") (Text (condition_text condition)) (codes "; d64sh check shows where")
+advice_by parts command (DirectoryError fault) = one_piece (codes "the disk is damaged: ") (Text (directory_fault fault)) (codes "; d64sh check shows where")
 advice_by parts command DiskFull = plain_pieces (codes "there is not enough space on the disk or in its directory")
 advice_by parts command (HostFile fault) = wrong_host_file parts command fault
 advice_by parts command NothingToUndo = plain_pieces (codes "there is nothing to undo")
 advice_by parts command NothingToRedo = plain_pieces (codes "there is nothing to redo")
 advice_by parts command NotOneBlock = one_piece (codes "the file \"") First (codes "\" is not 256 bytes long")
-advice_by parts command (BasicText fault line) = two_pieces (codes "the text \"") First (codes "\" is not a program: ") (Text (basic_fault fault)) []
-advice_by parts command (NotBasic fault) = two_pieces (codes "the file \"") First (codes "\" is not a BASIC program: ") (Text (list_fault fault)) []
+advice_by parts command (BasicText fault) = two_pieces (codes "the text \"") First (codes "\" is not a program: ") (Text (basic_fault fault)) []
+advice_by parts command (NotBasic fault) = two_pieces (codes "the file \"") First (codes "\" is not a BASIC program: ") (Text (list_fault_text fault)) []
 advice_by parts command FileLost = one_piece (codes "what was deleted as \"") First (codes "\" is lost, and cannot be brought back")
 advice_by parts command OutOfMemory = plain_pieces (codes "out of memory")
 advice_by parts command Done = plain_pieces []

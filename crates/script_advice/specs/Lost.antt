@@ -11,8 +11,8 @@ use Rattle.d64_scratched.specs.declared.loss.Loss.{Loss}
 use Rattle.d64_scratched.specs.declared.loss.Loss.TheVariants.{Chain, Reused, Marked, Size, Claimed, Unreadable}
 use Rattle.script_lines.specs.Act.{IsSpelled}
 use Rattle.script_lines.specs.Arguments.{name_and_kind_in}
-use Rattle.script_text.specs.declared.status.Status.{Status}
-use Rattle.script_text.specs.declared.status.Status.TheVariants.{FileLost}
+use Rattle.script_lines.specs.declared.status.Status.{Status}
+use Rattle.script_lines.specs.declared.status.Status.TheVariants.{FileLost}
 use Rattle.script_advice.specs.Found.{is_deleted_as, listed_slots}
 
 -- the text for a reason; empty for a reason for which no file is lost

@@ -2,7 +2,7 @@
 use Rattle.std.specs.Prelude.{◌≡◌, ◌⊎◌, ◌++◌}
 use Rattle.d64_image.specs.Disk.{Bytes, Disk}
 use Rattle.host_storage.specs.Files.{HostState}
-use Rattle.script_text.specs.declared.status.Status.{Status}
+use Rattle.script_lines.specs.declared.status.Status.{Status}
 use Rattle.script_advice.specs.Advice.{advice, advice_text}
 use Rattle.script_advice.specs.LineParts.{LineParts}
 use Rattle.script_advice.specs.Lost.{IsLostLine}

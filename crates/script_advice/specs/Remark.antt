@@ -5,8 +5,8 @@ use Rattle.d64_image.specs.Disk.{Bytes, Disk}
 use Rattle.d64_files.specs.Slot.{EntryView, is_locked, name_of}
 use Rattle.out_messages.specs.Names.{quoted_name}
 use Rattle.out_messages.specs.Words.{counted_text}
-use Rattle.script_text.specs.declared.status.Status.{Status}
-use Rattle.script_text.specs.declared.status.Status.TheVariants.{Done, FileNotFound, FilesScratched, SyntaxError, UnknownCommand}
+use Rattle.script_lines.specs.declared.status.Status.{Status}
+use Rattle.script_lines.specs.declared.status.Status.TheVariants.{Done, FileNotFound, FilesScratched, SyntaxError, UnknownCommand}
 use Rattle.script_lines.specs.LineCommand.{command_name, command_named}
 use Rattle.script_lines.specs.declared.line_command.LineCommand.{LineCommand}
 use Rattle.script_lines.specs.declared.line_command.LineCommand.TheVariants.{Delete, Format, Read, Undelete}

@@ -1,40 +1,35 @@
 -- What is wrong with the text of a refused `crunch`.
-use Rattle.std.specs.Prelude.{◌≡◌, ℕ, ◌==◌, nat_eq, ◌&&◌, Bool, true, false, not, ◌∷◌, ◌++◌, List, Ok, codes}
+use Rattle.std.specs.Prelude.{◌≡◌, nat_eq, ◌&&◌, Bool, not, ◌∷◌, ◌++◌, List, Ok, codes}
 use Rattle.std.specs.List.{starts_with}
-use Rattle.std.specs.Option.{option_map_or}
 use Rattle.d64_image.specs.Disk.{Bytes}
-use Rattle.cbm_text.specs.BasicText.{basic_fault_line, basic_fault_number}
 use Rattle.cbm_text.specs.Causes.{cause_text}
 use Rattle.cbm_text.specs.FaultyLines.{AreFaultyIn}
 use Rattle.cbm_text.specs.declared.cause.Cause.{Cause}
 use Rattle.cbm_text.specs.declared.faulty_text.FaultyLine.{FaultyLine}
+use Rattle.cbm_text.specs.declared.fault.BasicFault.{BasicFault}
 use Rattle.host_storage.specs.Files.{HostState}
 use Rattle.host_storage.specs.Host.{Fetches}
 use Rattle.script_lines.specs.BasicFiles.{program_start}
 use Rattle.script_lines.specs.Line.{host_file_limit}
-use Rattle.script_text.specs.declared.status.Status.{Status}
-use Rattle.script_text.specs.declared.status.Status.TheVariants.{BasicText}
+use Rattle.script_lines.specs.declared.status.Status.{Status}
+use Rattle.script_lines.specs.declared.status.Status.TheVariants.{BasicText}
 
 -- a host file can be read again: it is no device
 abbrev pub can_be_read_again : Bytes → Bool
 can_be_read_again name = not (starts_with nat_eq name (codes "/dev/")) && not (starts_with nat_eq name (codes "/proc/"))
 
--- whether a faulty line has a fault with this number, and is the line with this number
-abbrev pub is_fault : FaultyLine → ℕ → ℕ → Bool
-is_fault faulty fault line = (basic_fault_number faulty.fault == fault) && option_map_or (λ number. number == line) (basic_fault_line faulty.fault) false
+-- this is wrong with the first faulty line, which has this fault
+abbrev pub HasCauseFirst : List FaultyLine → BasicFault → Cause → Type 0
+HasCauseFirst lines fault cause =
+    (first : FaultyLine) × (more : List FaultyLine) × (lines ≡ first ∷ more) × (first.fault ≡ fault) × (cause ≡ first.cause)
 
--- this is wrong with the first faulty line, which has such a fault
-abbrev pub HasCauseFirst : List FaultyLine → ℕ → ℕ → Cause → Type 0
-HasCauseFirst lines fault line cause =
-    (first : FaultyLine) × (more : List FaultyLine) × (lines ≡ first ∷ more) × (is_fault first fault line ≡ true) × (cause ≡ first.cause)
-
--- this is wrong with the first faulty line of a text, which has such a fault
-abbrev pub IsFirstCause : Bytes → ℕ → ℕ → Cause → Type 0
-IsFirstCause text fault line cause = (lines : List FaultyLine) × AreFaultyIn program_start text lines × HasCauseFirst lines fault line cause
+-- this is wrong with the first faulty line of a text, which has this fault
+abbrev pub IsFirstCause : Bytes → BasicFault → Cause → Type 0
+IsFirstCause text fault cause = (lines : List FaultyLine) × AreFaultyIn program_start text lines × HasCauseFirst lines fault cause
 
 -- this is wrong with the text that the host has under a name, which was refused with a status
 abbrev pub IsFoundCause : HostState → Bytes → Status → Cause → Type 0
-IsFoundCause host name (BasicText fault line) cause = (text : Bytes) × Fetches host.files name host_file_limit (Ok text) × IsFirstCause text fault line cause
+IsFoundCause host name (BasicText fault) cause = (text : Bytes) × Fetches host.files name host_file_limit (Ok text) × IsFirstCause text fault cause
 IsFoundCause host name status cause = ⊥
 
 -- the beginning of a line, and then what is wrong with the text of this name

@@ -2,12 +2,12 @@
 ghost use Rattle.std.specs.Prelude.{◌≡◌};
 ghost use Rattle.script_advice.specs.Advice.{advice, file_piece, host_piece, missing_argument, missing_file, most_of, not_number, one_piece, piece_of, pieces, plain_pieces, piece_bytes, surplus_piece, two_pieces, usage_of, wrong_block, wrong_host_file, wrong_line, wrong_name, wrong_arguments};
 
-use crate::faults::{basic_fault, condition_text, list_fault};
+use crate::faults::{basic_fault, directory_fault};
 use crate::hint::hint_text;
 use crate::line_parts::LineParts;
-use script_lines::LineCommand;
+use host_storage::HostFault;
+use script_lines::{LineCommand, Status};
 use script_text::number::number;
-use script_text::status::Status;
 
 /// A piece of the advice: a text, or an argument of the line.
 #[derive(Clone, Copy)]
@@ -112,15 +112,15 @@ impl Advice {
                 b"\" has the wrong type for this command",
             ),
             Status::IllegalBlock { .. } => wrong_block(parts, command),
-            Status::DirectoryError { condition } => Advice::one(
+            Status::DirectoryError(fault) => Advice::one(
                 b"the disk is damaged: ",
-                Piece::Text(condition_text(condition)),
+                Piece::Text(directory_fault(fault)),
                 b"; d64sh check shows where",
             ),
             Status::DiskFull => Advice::plain(
                 b"there is not enough space on the disk or in its directory",
             ),
-            Status::HostFile { fault } => wrong_host_file(parts, command, fault),
+            Status::HostFile(fault) => wrong_host_file(parts, command, fault),
             Status::NothingToUndo => Advice::plain(b"there is nothing to undo"),
             Status::NothingToRedo => Advice::plain(b"there is nothing to redo"),
             Status::NotOneBlock => Advice::one(
@@ -128,18 +128,18 @@ impl Advice {
                 Piece::First,
                 b"\" is not 256 bytes long",
             ),
-            Status::BasicText { fault, .. } => Advice::two(
+            Status::BasicText(fault) => Advice::two(
                 b"the text \"",
                 Piece::First,
                 b"\" is not a program: ",
                 Piece::Text(basic_fault(fault)),
                 b"",
             ),
-            Status::NotBasic { fault } => Advice::two(
+            Status::NotBasic(fault) => Advice::two(
                 b"the file \"",
                 Piece::First,
                 b"\" is not a BASIC program: ",
-                Piece::Text(list_fault(fault)),
+                Piece::Text(fault.text().as_bytes()),
                 b"",
             ),
             Status::FileLost => Advice::one(
@@ -193,7 +193,7 @@ fn file_piece(parts: &LineParts<'_>, command: Option<LineCommand>) -> Piece
 {
     match command {
         Some(LineCommand::Rename) => Piece::Second,
-        Some(LineCommand::Crunch) | Some(LineCommand::Write) => {
+        Some(LineCommand::Crunch | LineCommand::Write) => {
             if parts.count > 2 {
                 Piece::Second
             } else {
@@ -265,7 +265,7 @@ fn wrong_arguments(parts: &LineParts<'_>, command: Option<LineCommand>) -> Advic
 }
 
 /// A line whose host file has this fault.
-fn wrong_host_file(parts: &LineParts<'_>, command: Option<LineCommand>, fault: u8) -> Advice
+fn wrong_host_file(parts: &LineParts<'_>, command: Option<LineCommand>, fault: HostFault) -> Advice
     ensures { pieces result ≡ wrong_host_file parts.now command fault }
 {
     if parts.count == 1 {
@@ -273,9 +273,13 @@ fn wrong_host_file(parts: &LineParts<'_>, command: Option<LineCommand>, fault: u
     }
     let piece = host_piece(parts, command);
     match fault {
-        1 => Advice::one(b"the host has no file \"", piece, b"\""),
-        3 => Advice::one(b"the file \"", piece, b"\" has more than 1048576 bytes"),
-        _ => Advice::one(b"the file \"", piece, b"\" cannot be read or written"),
+        HostFault::Missing => Advice::one(b"the host has no file \"", piece, b"\""),
+        HostFault::TooLong => {
+            Advice::one(b"the file \"", piece, b"\" has more than 1048576 bytes")
+        }
+        HostFault::Device | HostFault::Memory(_) => {
+            Advice::one(b"the file \"", piece, b"\" cannot be read or written")
+        }
     }
 }
 
@@ -289,7 +293,7 @@ fn wrong_line(parts: &LineParts<'_>, command: Option<LineCommand>) -> Advice
             not_number(parts.first, Piece::First, Piece::Second),
             b"\" is not a number from 0 to 255: block T S",
         ),
-        Some(LineCommand::BlockRead) | Some(LineCommand::BlockWrite) => Advice::one(
+        Some(LineCommand::BlockRead | LineCommand::BlockWrite) => Advice::one(
             b"\"",
             not_number(parts.second, Piece::Second, Piece::Third),
             b"\" is not a number from 0 to 255",
@@ -322,10 +326,12 @@ fn wrong_name(parts: &LineParts<'_>, command: Option<LineCommand>) -> Advice
     ensures { pieces result ≡ wrong_name parts.now command }
 {
     match command {
-        Some(LineCommand::BlockRead)
-        | Some(LineCommand::BlockWrite)
-        | Some(LineCommand::Keep)
-        | Some(LineCommand::Save) => Advice::one(
+        Some(
+            LineCommand::BlockRead
+            | LineCommand::BlockWrite
+            | LineCommand::Keep
+            | LineCommand::Save,
+        ) => Advice::one(
             b"\"",
             Piece::First,
             b"\" is not a valid name of a host file, which has 1 to 255 characters",
@@ -340,7 +346,7 @@ fn wrong_name(parts: &LineParts<'_>, command: Option<LineCommand>) -> Advice
             Piece::First,
             b"\" is not a valid name of 1 to 16 characters, alone or with an id of 2 after a comma, without * ? = : and quotes",
         ),
-        Some(LineCommand::Petcat) | Some(LineCommand::ShowText) => Advice::one(
+        Some(LineCommand::Petcat | LineCommand::ShowText) => Advice::one(
             b"\"",
             Piece::First,
             b"\" is not a valid name, which has 1 to 16 characters without = : , and quotes",

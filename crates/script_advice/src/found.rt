@@ -7,8 +7,8 @@ use d64_image::Image;
 use d64_scratched::is_scratched;
 use d64_survey::Survey;
 use petscii::to_text;
+use script_lines::Status;
 use script_lines::arguments::pattern_in;
-use script_text::status::Status;
 use std::alloc::{AllocError, Global};
 
 /// The files that an argument may mean.

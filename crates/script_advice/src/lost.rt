@@ -11,8 +11,8 @@ use d64_files::{Entry, Name};
 use d64_image::Image;
 use d64_scratched::{Loss, ScratchedSlots};
 use d64_survey::Survey;
+use script_lines::Status;
 use script_lines::arguments::{name_and_kind_in, name_in};
-use script_text::status::Status;
 use std::alloc::{AllocError, Global};
 
 /// The line that says why each deleted file of this name is lost, after this start, if the line of
@@ -31,10 +31,7 @@ pub(crate) fn lost_line(
     };
     let file = file_named(alloc, name)?;
     let loss = loss_of(image, &file)?;
-    match lost_about(alloc, start, name.as_bytes(), loss) {
-        Ok(line) => Some(line),
-        Err(_) => None,
-    }
+    lost_about(alloc, start, name.as_bytes(), loss).ok()
 }
 
 /// The line about a name with the reason.

@@ -12,7 +12,7 @@ use crate::lost::lost_line;
 use crate::text_cause::text_line;
 use d64_image::Image;
 use host_storage::{Host, OutputStream, WriteFault};
-use script_text::status::Status;
+use script_lines::Status;
 use std::alloc::Global;
 use std::io::Write;
 

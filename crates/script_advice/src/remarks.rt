@@ -10,8 +10,7 @@ use crate::near::near_command;
 use d64_files::Entry;
 use d64_image::Image;
 use out_messages::{push_count, push_quoted};
-use script_lines::LineCommand;
-use script_text::status::Status;
+use script_lines::{LineCommand, Status};
 use std::alloc::{AllocError, Global};
 
 /// What else there is to say about a line with this text and these arguments that ended with this

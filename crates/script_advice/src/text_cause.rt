@@ -1,12 +1,12 @@
 //! What is wrong with the text of a refused `crunch`, which is read again for this.
 ghost use Rattle.std.specs.Prelude.{◌≡◌, IfOk, IfSome};
 ghost use Rattle.host_storage.specs.Files.{HostState};
-ghost use Rattle.script_advice.specs.TextCause.{HasCauseFirst, IsFirstCause, IsFoundCause, IsFoundLine, can_be_read_again, is_fault, text_cause_line};
+ghost use Rattle.script_advice.specs.TextCause.{HasCauseFirst, IsFirstCause, IsFoundCause, IsFoundLine, can_be_read_again, text_cause_line};
 
-use cbm_text::{Cause, FaultyLine, PROGRAM_START, faulty_lines};
+use cbm_text::{BasicFault, Cause, FaultyLine, PROGRAM_START, faulty_lines};
 use host_storage::Host;
+use script_lines::Status;
 use script_lines::host_file::HOST_FILE_BYTES;
-use script_text::status::Status;
 use std::alloc::{AllocError, Global};
 
 /// The line about the text in the host file with this name that was refused with this status: after
@@ -21,10 +21,7 @@ pub(crate) fn text_line<H: Host>(
     ensures { IfSome result (λ line. IsFoundLine (H.state host.old) start.now name.now status.now line.items) }
 {
     let cause = text_cause(alloc, host, name, status)?;
-    match line_about(alloc, start, name, cause) {
-        Ok(line) => Some(line),
-        Err(_) => None,
-    }
+    line_about(alloc, start, name, cause).ok()
 }
 
 /// The line about a text with what is wrong with it.
@@ -46,17 +43,15 @@ fn line_about(alloc: Global, start: &[u8], name: &str, cause: Cause) -> Result<V
 fn text_cause<H: Host>(alloc: Global, host: &mut H, name: &str, status: &Status) -> Option<Cause>
     ensures { IfSome result (IsFoundCause (H.state host.old) name.now status.now) }
 {
-    let Status::BasicText { fault, line } = *status else {
+    let Status::BasicText(fault) = *status else {
         return None;
     };
     if !can_be_read_again(name) {
         return None;
     }
     let mut text = Vec::new(alloc);
-    match host.fill(name, HOST_FILE_BYTES, &mut text) {
-        Ok(()) => first_cause(alloc, text.as_slice(), fault, line),
-        Err(_) => None,
-    }
+    host.fill(name, HOST_FILE_BYTES, &mut text).ok()?;
+    first_cause(alloc, text.as_slice(), &fault)
 }
 
 /// Whether a host file can be read twice: a device's content can be read only once.
@@ -66,36 +61,26 @@ fn can_be_read_again(name: &str) -> bool
     !name.starts_with("/dev/") && !name.starts_with("/proc/")
 }
 
-/// What is wrong with the first faulty line of a text, if that has a fault with this number on the
-/// line with this number.
-fn first_cause(alloc: Global, text: &[u8], fault: u8, line: u32) -> Option<Cause>
-    ensures { IfSome result (IsFirstCause text.now fault line) }
+/// What is wrong with the first faulty line of a text, if that has this fault.
+fn first_cause(alloc: Global, text: &[u8], fault: &BasicFault) -> Option<Cause>
+    ensures { IfSome result (IsFirstCause text.now fault.now) }
 {
-    let Ok(found) = faulty_lines(alloc, PROGRAM_START, text, 1) else {
-        return None;
-    };
-    cause_in(found.lines.as_slice(), fault, line)
+    let found = faulty_lines(alloc, PROGRAM_START, text, 1).ok()?;
+    cause_in(found.lines.as_slice(), fault)
 }
 
-/// The cause of the first faulty line, if it has such a fault.
-fn cause_in(lines: &[FaultyLine<'_>], fault: u8, line: u32) -> Option<Cause>
-    ensures { IfSome result (HasCauseFirst lines.now fault line) }
+/// The cause of the first faulty line, if it has this fault.
+fn cause_in(lines: &[FaultyLine<'_>], fault: &BasicFault) -> Option<Cause>
+    ensures { IfSome result (HasCauseFirst lines.now fault.now) }
 {
     match lines {
         [] => None,
         [first, ..] => {
-            if is_fault(first, fault, line) {
+            if first.fault == *fault {
                 Some(first.cause)
             } else {
                 None
             }
         }
     }
-}
-
-/// Whether a faulty line has a fault with this number, and is the line with this number.
-fn is_fault(faulty: &FaultyLine<'_>, fault: u8, line: u32) -> bool
-    ensures { result ≡ is_fault faulty.now fault line }
-{
-    faulty.fault.number() == fault && faulty.fault.line() == Some(line as usize)
 }

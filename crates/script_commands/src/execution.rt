@@ -14,10 +14,9 @@ use crate::handlers;
 use arrayvec::ArrayVec;
 use d64_undo::Session;
 use host_storage::Host;
-use script_lines::{Line, Response};
+use script_lines::{Line, Response, Status};
 use script_text::held_line::HeldLine;
 use script_text::raw_lines;
-use script_text::status::Status;
 use script_text::words::{MAX_WORDS, Words, as_text};
 use std::alloc::Global;
 

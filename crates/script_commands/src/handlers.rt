@@ -7,8 +7,8 @@ ghost use Rattle.d64_dos.specs.Command.{IsWithin};
 ghost use Rattle.script_lines.specs.Response.{Responds, RespondsAlone};
 ghost use Rattle.script_lines.specs.FoundFile.{can_name_file};
 ghost use Rattle.d64_history.specs.History.{History, present_image};
-ghost use Rattle.script_text.specs.declared.status.Status.TheVariants as statuses;
-ghost use Rattle.script_lines.specs.Line.{put, host_file_limit, block_act, block_read_act, block_write_act, crunch_act, write_program, delete_act, format_act, history_act, keep_act, list_act, name_act, name_parts, petcat_act, show_program, quit_act, read_act, read_to, redo_act, rename_act, save_act, show_file, type_act, undelete_act, undo_act, validate_act, write_act, run, write_one_block};
+ghost use Rattle.script_lines.specs.declared.status.Status.TheVariants as statuses;
+ghost use Rattle.script_lines.specs.Line.{put, block_act, block_read_act, block_write_act, crunch_act, write_program, delete_act, format_act, history_act, keep_act, list_act, name_act, name_parts, petcat_act, show_program, quit_act, read_act, read_to, redo_act, rename_act, save_act, show_file, type_act, undelete_act, undo_act, validate_act, write_act, run, write_one_block};
 
 use crate::history_text::history_text;
 use cbm_text::PROGRAM_START;
@@ -25,9 +25,7 @@ use script_lines::arguments::{
 use script_lines::file_text::file_text;
 use script_lines::host_file::{HOST_FILE_BYTES, fetch};
 use script_lines::listing_text::listing_text;
-use script_lines::status_from::{of_basic_fault, of_fault, of_list_fault, of_refusal, of_reply};
-use script_lines::{Output, Response};
-use script_text::status::Status;
+use script_lines::{Output, Response, Status};
 use std::alloc::Global;
 use std::str;
 
@@ -73,10 +71,8 @@ pub(crate) fn block_write<H: Host>(
 {
     let name = host_in(name)?;
     let at = block_in(session.image(), track, sector)?;
-    match fetch(alloc, host, name, HOST_FILE_BYTES) {
-        Ok(bytes) => write_one_block(session, at, bytes.as_slice()),
-        Err(fault) => Err(of_fault(fault)),
-    }
+    let bytes = fetch(alloc, host, name, HOST_FILE_BYTES)?;
+    write_one_block(session, at, bytes.as_slice())
 }
 
 /// Replaces a block of the image by the bytes of a host file.
@@ -95,10 +91,8 @@ fn run_command(session: &mut Session, command: &Command) -> Result<Response, Sta
     requires { IsWithin (present_image session.old) (change_of command.now) }
     ensures { RespondsAlone (run session.old (change_of command.now)) session.old result session.new }
 {
-    match session.run(command) {
-        Ok(reply) => Ok(Response::plain(of_reply(reply))),
-        Err(refusal) => Err(of_refusal(refusal)),
-    }
+    let reply = session.run(command)?;
+    Ok(Response::plain(Status::from(reply)))
 }
 
 /// `crunch`: writes a BASIC text of the host to the disk as a program, by default under its own
@@ -114,10 +108,8 @@ pub(crate) fn crunch<H: Host>(
 {
     let file = host_in(source)?;
     let name = name_in(alloc, new_name(source, name))?;
-    match fetch(alloc, host, file, HOST_FILE_BYTES) {
-        Ok(text) => write_program(alloc, session, name, text.as_slice()),
-        Err(fault) => Err(of_fault(fault)),
-    }
+    let text = fetch(alloc, host, file, HOST_FILE_BYTES)?;
+    write_program(alloc, session, name, text.as_slice())
 }
 
 /// Writes the program of a BASIC text to the disk as PRG.
@@ -127,20 +119,17 @@ fn write_program(
     name: Name,
     text: &[u8],
 ) -> Result<Response, Status>
-    requires { length text.now ≤ host_file_limit }
     ensures { RespondsAlone (write_program session.old name text.now) session.old result session.new }
 {
-    match cbm_text::crunch(alloc, PROGRAM_START, text) {
-        Ok(bytes) => run_command(
-            session,
-            &Command::Write {
-                name,
-                kind: Kind::Prg,
-                bytes,
-            },
-        ),
-        Err(fault) => Err(of_basic_fault(fault)),
-    }
+    let bytes = cbm_text::crunch(alloc, PROGRAM_START, text)?;
+    run_command(
+        session,
+        &Command::Write {
+            name,
+            kind: Kind::Prg,
+            bytes,
+        },
+    )
 }
 
 /// `delete`: deletes the files that at least one of the patterns matches. Each argument is a
@@ -199,7 +188,7 @@ pub(crate) fn keep<H: Host>(
 pub(crate) fn list(alloc: Global, session: &Session) -> Result<Response, Status>
     ensures { RespondsAlone (list_act session.now) session.now result session.now }
 {
-    let listing = d64_dos::listing(alloc, session.image()).map_err(of_refusal)?;
+    let listing = d64_dos::listing(alloc, session.image())?;
     let text = listing_text(alloc, &listing)?;
     Ok(Response::text(text))
 }
@@ -250,10 +239,10 @@ pub(crate) fn petcat(alloc: Global, session: &Session, name: &str) -> Result<Res
 fn show_program(alloc: Global, session: &Session, pattern: &Pattern) -> Result<Response, Status>
     ensures { RespondsAlone (show_program session.now pattern.now) session.now result session.now }
 {
-    let file = d64_dos::read(alloc, session.image(), pattern).map_err(of_refusal)?;
+    let file = d64_dos::read(alloc, session.image(), pattern)?;
     match cbm_text::list(alloc, file.bytes.as_slice()) {
         Ok(text) => Ok(Response::text(text)),
-        Err(fault) => Err(of_list_fault(fault)),
+        Err(fault) => Err(Status::from(fault)),
     }
 }
 
@@ -296,10 +285,8 @@ fn read_to<H: Host>(
     ensures { Responds (read_to session.now pattern.now (Some argument.now)) (H.state host.old) session.now result (H.state host.new) session.now }
 {
     let name = host_in(argument)?;
-    match d64_dos::read(alloc, session.image(), pattern) {
-        Ok(file) => store(alloc, host, name, file.bytes.as_slice()),
-        Err(refusal) => Err(of_refusal(refusal)),
-    }
+    let found = d64_dos::read(alloc, session.image(), pattern)?;
+    store(alloc, host, name, found.bytes.as_slice())
 }
 
 /// Stores the file that a pattern finds in the host file of its own name in text form.
@@ -311,7 +298,7 @@ fn read_as_found<H: Host>(
 ) -> Result<Response, Status>
     ensures { Responds (read_to session.now pattern.now None) (H.state host.old) session.now result (H.state host.new) session.now }
 {
-    let file = d64_dos::read(alloc, session.image(), pattern).map_err(of_refusal)?;
+    let file = d64_dos::read(alloc, session.image(), pattern)?;
     let name = to_text(alloc, file.name.as_slice())?;
     spelling_is_ascii(file.name.as_slice());
     if !is_file_name(name.as_slice()) {
@@ -373,7 +360,7 @@ pub(crate) fn type_text(alloc: Global, session: &Session, name: &str) -> Result<
 fn show_file(alloc: Global, session: &Session, pattern: &Pattern) -> Result<Response, Status>
     ensures { RespondsAlone (show_file session.now pattern.now) session.now result session.now }
 {
-    let file = d64_dos::read(alloc, session.image(), pattern).map_err(of_refusal)?;
+    let file = d64_dos::read(alloc, session.image(), pattern)?;
     let text = file_text(alloc, file.bytes.as_slice())?;
     Ok(Response::text(text))
 }
@@ -420,20 +407,16 @@ pub(crate) fn write<H: Host>(
     let file = host_in(source)?;
     let (name, kind) = name_and_kind_of(source, name)?;
     let name = name_in(alloc, name)?;
-    match fetch(alloc, host, file, HOST_FILE_BYTES) {
-        Ok(bytes) => run_command(session, &Command::Write { name, kind, bytes }),
-        Err(fault) => Err(of_fault(fault)),
-    }
+    let bytes = fetch(alloc, host, file, HOST_FILE_BYTES)?;
+    run_command(session, &Command::Write { name, kind, bytes })
 }
 
 /// Stores bytes in a host file.
 fn store<H: Host>(alloc: Global, host: &mut H, name: &str, bytes: &[u8]) -> Result<Response, Status>
     ensures { (history : History) → Responds (put history name.now bytes.now) (H.state host.old) history result (H.state host.new) history }
 {
-    match host.store(alloc, name, bytes) {
-        Ok(()) => Ok(Response::plain(Status::Done)),
-        Err(fault) => Err(of_fault(fault)),
-    }
+    host.store(alloc, name, bytes)?;
+    Ok(Response::plain(Status::Done))
 }
 
 /// Whether a text can name a host file: it isn't empty, `.` or `..`, and has no `/`.

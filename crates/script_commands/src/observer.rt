@@ -3,8 +3,8 @@
 use d64_image::Image;
 use d64_undo::Session;
 use host_storage::HostFault;
+use script_lines::Status;
 use script_text::held_line::HeldLine;
-use script_text::status::Status;
 
 /// The effect of a refused line on its script.
 #[derive(Clone, Copy, PartialEq, Eq)]

@@ -3,7 +3,7 @@ use Rattle.std.proofs.Common.{◌≡◌, ℕ, List, [], Option, None, Some, Resu
 use Rattle.std.specs.Option.{option_map_or, option_map}
 use Rattle.std.specs.Result.{IfOk, result_unwrap_or}
 use Rattle.d64_image.specs.Disk.{Disk}
-use Rattle.script_text.specs.declared.status.Status.{Status}
+use Rattle.script_lines.specs.declared.status.Status.{Status}
 use Rattle.script_advice.specs.Found.{IsDefaultName}
 use Rattle.script_advice.specs.LineParts.{parts_of_line}
 use Rattle.script_advice.specs.Remark.{IsRemark}

@@ -4,8 +4,8 @@ use Rattle.std.specs.Prelude.{◌≡◌, ℕ, Bool, true, false, if◌then◌els
 use Rattle.std.specs.Str.{bytes_eq}
 use Rattle.d64_image.specs.Disk.{Bytes, Disk}
 use Rattle.script_text.specs.RawLines.{is_too_long, text_of}
-use Rattle.script_text.specs.declared.status.Status.{Status}
-use Rattle.script_text.specs.declared.status.Status.TheVariants.{UnknownCommand}
+use Rattle.script_lines.specs.declared.status.Status.{Status}
+use Rattle.script_lines.specs.declared.status.Status.TheVariants.{UnknownCommand}
 use Rattle.script_advice.specs.LineParts.{parts_of_line}
 use Rattle.script_advice.specs.Remark.{IsRemark}
 use Rattle.script_commands.specs.declared.observer.Refusals.{Refusals}

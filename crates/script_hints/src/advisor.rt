@@ -6,7 +6,7 @@ ghost use Rattle.script_text.specs.HeldLine.{HoldsText};
 ghost use Rattle.host_storage.specs.Output.{Writes};
 ghost use Rattle.program_console.specs.Outside.{account_at};
 ghost use Rattle.script_text.specs.RawLines.{line_limit};
-ghost use Rattle.script_text.specs.Status.{is_accepted};
+ghost use Rattle.script_lines.specs.Status.{is_accepted};
 ghost use Rattle.d64_history.specs.History.{present_image};
 ghost use Rattle.std.specs.Option.{option_map_or};
 ghost use Rattle.script_hints.specs.LineStart.{line_start};
@@ -33,10 +33,9 @@ use d64_undo::Session;
 use host_storage::{Host, HostFault, OutputStream, WriteFault};
 use script_advice::{LineParts, default_name, file_count, remark, write_refusal};
 use script_commands::{Observer, Opening, Refusals};
-use script_lines::LineCommand;
+use script_lines::{LineCommand, Status};
 use script_text::held_line::HeldLine;
 use script_text::raw_lines::LINE_BYTES;
-use script_text::status::Status;
 use std::alloc::Global;
 use std::io::Write;
 
@@ -209,10 +208,7 @@ impl<'w, W: Write, H: Host> Advisor<'w, W, H> {
             return None;
         }
         let text = text_of(line, self.first_bytes.as_slice());
-        match line_start(self.alloc, self.lines, text) {
-            Ok(start) => Some(start),
-            Err(_) => None,
-        }
+        line_start(self.alloc, self.lines, text).ok()
     }
 
     /// Ends the session: if its image is not the one that a file has, it says so, and keeps the

@@ -3,8 +3,8 @@ use Rattle.std.proofs.Common.{◌≡◌, ℕ, List, Option, Some, None, Ok, Err,
 use Rattle.d64_dos.specs.Refusal.{cause_of}
 use Rattle.d64_dos.specs.declared.refusal.Refusal.{Refusal}
 use Rattle.d64_dos.specs.declared.refusal.Refusal.TheVariants.{NotClosed, NotFound, Exists, WrongType, Directory, Lost, DiskFull, Memory}
-use Rattle.script_text.specs.declared.status.Status.{Status}
-use Rattle.script_text.specs.declared.status.Status.TheVariants.{OutOfMemory}
+use Rattle.script_lines.specs.declared.status.Status.{Status}
+use Rattle.script_lines.specs.declared.status.Status.TheVariants.{OutOfMemory}
 use Rattle.script_lines.specs.Act.{Act, Give, Refuse, Then, ◌>>=◌, Call, CallGives, Does, Ending, LineResponse, World, plain_response}
 use Rattle.host_storage.specs.Files.{HostState}
 use Rattle.d64_history.specs.History.{History}

@@ -2,7 +2,7 @@
 use Rattle.std.proofs.Common.{◌≡◌, ℕ, List, false, cond, Option, None, Some, sym, ap, ◌∙◌, subst}
 use Rattle.std.specs.Prelude.{MatchOption}
 use Rattle.script_text.specs.RawLines.{is_skipped, is_too_long, text_of}
-use Rattle.script_text.specs.declared.status.Status.TheVariants.{LongLine}
+use Rattle.script_lines.specs.declared.status.Status.TheVariants.{LongLine}
 use Rattle.d64_history.specs.History.{History}
 use Rattle.script_lines.specs.Act.{Act, Refuse, Does, Ending, LineResponse, World}
 use Rattle.script_lines.specs.Line.{act_of_line, act_of_text, IsExecuted}

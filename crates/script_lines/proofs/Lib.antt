@@ -1,4 +1,5 @@
 pub mod Finding
+pub mod TwoDigits
 pub mod LineCommands
 pub mod Acts
 pub mod BasicActs

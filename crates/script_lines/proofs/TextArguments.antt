@@ -7,8 +7,8 @@ use Rattle.petscii.specs.TextForm.{IsTextOf, HasOneReading}
 use Rattle.petscii.specs.TextFault.{IsTextOutOfMemory, IsFirstTextFault, HasNoFaultIfRead}
 use Rattle.petscii.specs.declared.fault.TextFault.{TextFault}
 use Rattle.petscii.specs.declared.fault.TextFault.TheVariants.{UnknownName, OpenBrace, BadByte, Memory}
-use Rattle.script_text.specs.declared.status.Status.{Status}
-use Rattle.script_text.specs.declared.status.Status.TheVariants.{OutOfMemory}
+use Rattle.script_lines.specs.declared.status.Status.{Status}
+use Rattle.script_lines.specs.declared.status.Status.TheVariants.{OutOfMemory}
 use Rattle.script_lines.specs.Act.{Act, Give, Then, ◌>>=◌, Text, each_text, Does, Ending, IsSpelled, LineResponse, World, plain_response}
 use Rattle.host_storage.specs.Files.{HostState}
 use Rattle.d64_history.specs.History.{History}

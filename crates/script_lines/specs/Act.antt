@@ -3,14 +3,14 @@ use Rattle.std.specs.Prelude.{◌≡◌, ℕ, List, [], ◌∷◌, ◌++◌, Boo
 use Rattle.d64_image.specs.Disk.{Bytes, AreBytes}
 use Rattle.petscii.specs.TextForm.{IsTextOf}
 use Rattle.host_storage.specs.Files.{HostState}
-use Rattle.host_storage.specs.Host.{fault_number, Fetches, Stores, CountsDevice}
+use Rattle.host_storage.specs.Host.{Fetches, Stores, CountsDevice}
 use Rattle.d64_history.specs.History.{History}
 use Rattle.host_storage.specs.declared.host.HostFault.{HostFault}
 use Rattle.host_storage.specs.declared.host.HostFault.TheVariants.{Memory}
 use Rattle.script_lines.specs.BasicFiles.{Crunches, Expands}
-use Rattle.script_text.specs.Status.{status_line}
-use Rattle.script_text.specs.declared.status.Status.{Status}
-use Rattle.script_text.specs.declared.status.Status.TheVariants.{BadName, HostFile, OutOfMemory}
+use Rattle.script_lines.specs.Status.{status_line}
+use Rattle.script_lines.specs.declared.status.Status.{Status}
+use Rattle.script_lines.specs.declared.status.Status.TheVariants.{BadName, HostFile, OutOfMemory}
 
 -- the response to a line: output, status, and whether it ends the run
 pub record LineResponse : Type 0 where
@@ -112,7 +112,7 @@ pub record StoresFile (old : HostState) (name bytes : Bytes) (stored : Result (U
 -- the status of a fault of the host
 abbrev pub status_of_fault : HostFault → Status
 status_of_fault (Memory error) = OutOfMemory
-status_of_fault fault = HostFile (fault_number fault)
+status_of_fault fault = HostFile fault
 
 -- what the host gave, or its fault's status
 abbrev pub bytes_given : {A : Type 0} → (A → Bytes) → Result A HostFault → Result Bytes Status

@@ -3,7 +3,7 @@
 use Rattle.std.specs.Prelude.{nat_le, if◌then◌else◌, List, [], ◌∷◌, length, Option, Some, None}
 use Rattle.d64_image.specs.Disk.{Bytes}
 use Rattle.script_lines.specs.Act.{Act, Give, Refuse, ◌>>=◌}
-use Rattle.script_text.specs.declared.status.Status.TheVariants.{SyntaxError, MissingArgument}
+use Rattle.script_lines.specs.declared.status.Status.TheVariants.{SyntaxError, MissingArgument}
 
 abbrev pub no_argument : List Bytes → Act (Unit {0})
 no_argument [] = Give tt

@@ -4,8 +4,8 @@ use Rattle.d64_image.specs.Disk.{Bytes}
 use Rattle.std.specs.Borrow.{Bor}
 use Rattle.std.specs.List.{AllZip}
 use Rattle.d64_files.specs.declared.kind.Kind.{Kind}
-use Rattle.script_text.specs.declared.status.Status.{Status}
-use Rattle.script_text.specs.declared.status.Status.TheVariants.{BadName, OutOfMemory}
+use Rattle.script_lines.specs.declared.status.Status.{Status}
+use Rattle.script_lines.specs.declared.status.Status.TheVariants.{BadName, OutOfMemory}
 use Rattle.script_lines.specs.Act.{IsSpelled}
 
 -- a text that was returned, as its bytes

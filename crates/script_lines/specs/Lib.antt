@@ -5,6 +5,7 @@ pub mod FileText
 pub mod HistoryText
 pub mod FoundFile
 pub mod BasicFiles
+pub mod Status
 pub mod Act
 pub mod ArgumentCounts
 pub mod LineCommand

@@ -9,7 +9,6 @@ use Rattle.d64_history.specs.SessionFile.{file_of}
 use Rattle.d64_dos.specs.Command.{image_after, reply_to, refusal_of}
 use Rattle.d64_dos.specs.Listing.{listing_of}
 use Rattle.d64_dos.specs.Reading.{directory_refusal, read_refusal}
-use Rattle.d64_files.specs.Directory.{condition_number}
 use Rattle.d64_files.specs.Pattern.{is_pattern}
 use Rattle.d64_files.specs.declared.kind.Kind.TheVariants.{Prg}
 use Rattle.script_text.specs.Words.{words_of_line}
@@ -32,15 +31,15 @@ use Rattle.d64_dos.specs.declared.command.Reply.{Reply}
 use Rattle.d64_dos.specs.declared.command.Reply.TheVariants as replies
 use Rattle.d64_dos.specs.declared.refusal.Refusal.{Refusal}
 use Rattle.d64_dos.specs.declared.refusal.Refusal.TheVariants as refusals
-use Rattle.script_text.specs.declared.status.Status.{Status}
-use Rattle.script_text.specs.declared.status.Status.TheVariants.{Done, FilesScratched, SyntaxError, UnknownCommand, LongLine, BadName, MissingArgument, WriteFileOpen, FileNotFound, FileExists, FileTypeMismatch, DirectoryError, DiskFull, NothingToUndo, NothingToRedo, NotOneBlock, FileLost, OutOfMemory}
+use Rattle.script_lines.specs.declared.status.Status.{Status}
+use Rattle.script_lines.specs.declared.status.Status.TheVariants.{Done, FilesScratched, SyntaxError, UnknownCommand, LongLine, BadName, MissingArgument, WriteFileOpen, FileNotFound, FileExists, FileTypeMismatch, DirectoryError, DiskFull, NothingToUndo, NothingToRedo, NotOneBlock, FileLost, OutOfMemory}
 
 abbrev pub status_of_refusal : Refusal → Status
 status_of_refusal refusals.NotClosed = WriteFileOpen
 status_of_refusal refusals.NotFound = FileNotFound
 status_of_refusal refusals.Exists = FileExists
 status_of_refusal refusals.WrongType = FileTypeMismatch
-status_of_refusal (refusals.Directory fault) = DirectoryError (condition_number fault)
+status_of_refusal (refusals.Directory fault) = DirectoryError fault
 status_of_refusal refusals.Lost = FileLost
 status_of_refusal refusals.DiskFull = DiskFull
 status_of_refusal refusals.Memory = OutOfMemory

@@ -2,7 +2,7 @@
 use Rattle.std.specs.Prelude.{map, Option, option_map, Result, Ok, Err}
 use Rattle.d64_image.specs.Disk.{Bytes}
 use Rattle.d64_history.specs.History.{History}
-use Rattle.script_text.specs.declared.status.Status.{Status}
+use Rattle.script_lines.specs.declared.status.Status.{Status}
 use Rattle.script_lines.specs.Act.{Act, Give, Refuse, Ending}
 use Rattle.script_lines.specs.Line.{block_act, block_read_act, block_write_act, crunch_act, delete_act, format_act, history_act, keep_act, list_act, name_act, petcat_act, quit_act, read_act, redo_act, rename_act, save_act, type_act, undelete_act, undo_act, validate_act, write_act}
 use Rattle.script_lines.specs.declared.line.Line.{Line}

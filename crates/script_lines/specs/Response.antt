@@ -9,7 +9,7 @@ use Rattle.d64_history.specs.History.{History, present_image}
 use Rattle.script_lines.specs.declared.response.Response.{Response}
 use Rattle.script_lines.specs.declared.response.Output.{Output}
 use Rattle.script_lines.specs.declared.response.Output.TheVariants.{Nothing, Block, Text}
-use Rattle.script_text.specs.declared.status.Status.{Status}
+use Rattle.script_lines.specs.declared.status.Status.{Status}
 
 -- the bytes of an output, for this as the image; a block that the image doesn't have gives no bytes
 abbrev pub output_bytes : Disk → Output → Bytes

@@ -8,12 +8,11 @@ ghost use Rattle.petscii.specs.TextForm.{HasOneReading};
 ghost use Rattle.d64_files.specs.Name.{is_name};
 ghost use Rattle.d64_files.specs.Pattern.{is_pattern};
 
-use crate::status_from::of_text_fault;
+use crate::status::Status;
 use d64_files::{Kind, Name, Pattern};
 use d64_image::{BlockNo, Image};
 use petscii::{from_text, one_outcome};
 use script_text::number::number;
-use script_text::status::Status;
 use std::alloc::Global;
 
 /// The most bytes of the name of a host file.
@@ -55,7 +54,7 @@ fn bytes_in(alloc: Global, argument: &[u8]) -> Result<Vec<u8>, Status>
     one_outcome(argument);
     match from_text(alloc, argument) {
         Ok(bytes) => Ok(bytes),
-        Err(fault) => Err(of_text_fault(fault)),
+        Err(fault) => Err(Status::from(fault)),
     }
 }
 

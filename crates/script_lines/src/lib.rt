@@ -11,8 +11,10 @@ mod line;
 mod line_command;
 pub mod listing_text;
 mod response;
-pub mod status_from;
+mod status;
+mod status_from;
 
 pub use line::Line;
 pub use line_command::LineCommand;
 pub use response::{Output, Response};
+pub use status::Status;

@@ -7,7 +7,7 @@ ghost use Rattle.script_lines.specs.LineValue.{act_of, act_of_result, arguments_
 ghost use Rattle.script_lines.specs.ArgumentCounts.{one_argument, at_most_one, argument_and, some_arguments};
 
 use crate::line_command::LineCommand;
-use script_text::status::Status;
+use crate::status::Status;
 use script_text::words::MAX_WORDS;
 
 /// What a line asks for: its command, and the arguments as they were written.

@@ -3,10 +3,10 @@ ghost use Rattle.std.specs.Prelude.{◌≡◌, OnOk, OnErr};
 ghost use Rattle.std.specs.Io.KnownBytes.{Appends};
 ghost use Rattle.host_storage.specs.Output.{AppendsPart, FailsWith};
 
+use crate::status::Status;
 use d64_image::{BlockNo, Image};
 use host_storage::{OutputStream, WriteFault};
 use script_text::dump::dump;
-use script_text::status::Status;
 use std::io::Write;
 
 /// What a line prints before its status line.
@@ -55,7 +55,7 @@ pub struct Response {
 
 impl Response {
     ghost use Rattle.std.specs.Prelude.{List, ℕ, false};
-    ghost use Rattle.script_text.specs.declared.status.Status.TheVariants.{Done};
+    ghost use Rattle.script_lines.specs.declared.status.Status.TheVariants.{Done};
     ghost use Rattle.script_lines.specs.Act.{plain_response, printed_bytes};
     ghost use Rattle.script_lines.specs.Response.{line_response, shown_response};
 

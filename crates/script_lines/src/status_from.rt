@@ -1,91 +1,99 @@
 //! The status of each fault, refusal and reply.
-ghost use Rattle.std.specs.Prelude.{◌≡◌, ◌<◌, ◌^◌, IfSome};
-ghost use Rattle.cbm_text.specs.BasicText.{basic_fault_line};
-ghost use Rattle.script_lines.specs.BasicFiles.{status_of_basic, status_of_listing};
-ghost use Rattle.script_lines.specs.Act.{status_of_fault};
-ghost use Rattle.script_lines.specs.Arguments.{status_of_text};
-ghost use Rattle.script_lines.specs.Line.{status_of_refusal, status_of_reply};
 
+use crate::status::Status;
 use cbm_text::{BasicFault, ListFault};
 use d64_dos::{Refusal, Reply};
 use host_storage::HostFault;
 use petscii::TextFault;
-use script_text::status::Status;
 
-/// The status of a fault of the host.
-pub fn of_fault(fault: HostFault) -> Status
-    ensures { result ≡ status_of_fault fault }
-{
-    match fault {
-        HostFault::Memory(_) => Status::OutOfMemory,
-        fault => Status::HostFile {
-            fault: fault.number(),
-        },
-    }
-}
+impl From<HostFault> for Status {
+    ghost use Rattle.std.specs.Prelude.{◌≡◌};
+    ghost use Rattle.script_lines.specs.Act.{status_of_fault};
 
-/// The status of a fault of an argument in text form.
-pub fn of_text_fault(fault: TextFault) -> Status
-    ensures { result ≡ status_of_text fault }
-{
-    match fault {
-        TextFault::Memory(_) => Status::OutOfMemory,
-        TextFault::UnknownName { .. } | TextFault::OpenBrace { .. } | TextFault::BadByte { .. } => {
-            Status::BadName
+    ghost from_gives = { λ fault status. status ≡ status_of_fault fault };
+
+    fn from(fault: HostFault) -> Status {
+        match fault {
+            HostFault::Memory(_) => Status::OutOfMemory,
+            fault => Status::HostFile(fault),
         }
     }
 }
 
-/// The status of a fault of a BASIC text.
-pub fn of_basic_fault(fault: BasicFault) -> Status
-    requires { IfSome (basic_fault_line fault) (λ line. line < 2 ^ 32) }
-    ensures { result ≡ status_of_basic fault }
-{
-    match fault.line() {
-        Some(line) => Status::BasicText {
-            fault: fault.number(),
-            line: line as u32,
-        },
-        None => Status::OutOfMemory,
+impl From<TextFault> for Status {
+    ghost use Rattle.std.specs.Prelude.{◌≡◌};
+    ghost use Rattle.script_lines.specs.Arguments.{status_of_text};
+
+    ghost from_gives = { λ fault status. status ≡ status_of_text fault };
+
+    fn from(fault: TextFault) -> Status {
+        match fault {
+            TextFault::Memory(_) => Status::OutOfMemory,
+            TextFault::UnknownName { .. }
+            | TextFault::OpenBrace { .. }
+            | TextFault::BadByte { .. } => Status::BadName,
+        }
     }
 }
 
-/// The status of a fault of a program that was to be listed.
-pub fn of_list_fault(fault: ListFault) -> Status
-    ensures { result ≡ status_of_listing fault }
-{
-    match fault {
-        ListFault::Memory(_) => Status::OutOfMemory,
-        fault => Status::NotBasic {
-            fault: fault.number(),
-        },
+impl From<BasicFault> for Status {
+    ghost use Rattle.std.specs.Prelude.{◌≡◌};
+    ghost use Rattle.script_lines.specs.BasicFiles.{status_of_basic};
+
+    ghost from_gives = { λ fault status. status ≡ status_of_basic fault };
+
+    fn from(fault: BasicFault) -> Status {
+        match fault {
+            BasicFault::Memory(_) => Status::OutOfMemory,
+            fault => Status::BasicText(fault),
+        }
     }
 }
 
-/// The status of a refusal of a command.
-pub fn of_refusal(refusal: Refusal) -> Status
-    ensures { result ≡ status_of_refusal refusal }
-{
-    match refusal {
-        Refusal::NotClosed => Status::WriteFileOpen,
-        Refusal::NotFound => Status::FileNotFound,
-        Refusal::Exists => Status::FileExists,
-        Refusal::WrongType => Status::FileTypeMismatch,
-        Refusal::Directory(fault) => Status::DirectoryError {
-            condition: fault.number(),
-        },
-        Refusal::Lost => Status::FileLost,
-        Refusal::DiskFull => Status::DiskFull,
-        Refusal::Memory => Status::OutOfMemory,
+impl From<ListFault> for Status {
+    ghost use Rattle.std.specs.Prelude.{◌≡◌};
+    ghost use Rattle.script_lines.specs.BasicFiles.{status_of_listing};
+
+    ghost from_gives = { λ fault status. status ≡ status_of_listing fault };
+
+    fn from(fault: ListFault) -> Status {
+        match fault {
+            ListFault::Memory(_) => Status::OutOfMemory,
+            fault => Status::NotBasic(fault),
+        }
     }
 }
 
-/// The status of a reply to a command.
-pub fn of_reply(reply: Reply) -> Status
-    ensures { result ≡ status_of_reply reply }
-{
-    match reply {
-        Reply::Done => Status::Done,
-        Reply::Scratched(count) => Status::FilesScratched { count },
+impl From<Refusal> for Status {
+    ghost use Rattle.std.specs.Prelude.{◌≡◌};
+    ghost use Rattle.script_lines.specs.Line.{status_of_refusal};
+
+    ghost from_gives = { λ refusal status. status ≡ status_of_refusal refusal };
+
+    fn from(refusal: Refusal) -> Status {
+        match refusal {
+            Refusal::NotClosed => Status::WriteFileOpen,
+            Refusal::NotFound => Status::FileNotFound,
+            Refusal::Exists => Status::FileExists,
+            Refusal::WrongType => Status::FileTypeMismatch,
+            Refusal::Directory(fault) => Status::DirectoryError(fault),
+            Refusal::Lost => Status::FileLost,
+            Refusal::DiskFull => Status::DiskFull,
+            Refusal::Memory => Status::OutOfMemory,
+        }
+    }
+}
+
+impl From<Reply> for Status {
+    ghost use Rattle.std.specs.Prelude.{◌≡◌};
+    ghost use Rattle.script_lines.specs.Line.{status_of_reply};
+
+    ghost from_gives = { λ reply status. status ≡ status_of_reply reply };
+
+    fn from(reply: Reply) -> Status {
+        match reply {
+            Reply::Done => Status::Done,
+            Reply::Scratched(count) => Status::FilesScratched { count },
+        }
     }
 }

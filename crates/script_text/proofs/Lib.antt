@@ -4,7 +4,6 @@ pub mod Rows
 pub mod Runs
 pub mod ScriptReads
 pub mod Splitting
-pub mod TwoDigits
 pub mod WordRule
 pub mod OpenLines
 pub mod Cuts

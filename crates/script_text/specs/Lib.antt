@@ -3,6 +3,5 @@ pub mod Number
 pub mod Parts
 pub mod RawLines
 pub mod Script
-pub mod Status
 pub mod Words
 pub mod HeldLine

@@ -1,12 +1,14 @@
 //! The text of scripts and of their output.
 
-use host_storage::{InputStream, write_bytes};
+use cbm_text::{BasicFault, ListFault};
+use d64_files::DirFault;
+use host_storage::{HostFault, InputStream, write_bytes};
+use script_lines::Status;
 use script_text::dump::dump;
 use script_text::held_line::HeldLine;
 use script_text::number::number;
 use script_text::raw_lines::{RawLines, is_skipped, text};
 use script_text::script::read_input;
-use script_text::status::Status;
 use script_text::words::{NoWords, Words};
 use std::process::Abort;
 use std::test::Fail;
@@ -102,19 +104,22 @@ const STATUSES: [(Status, &str); 24] = [
         "66,ILLEGAL TRACK AND SECTOR,01,21\n",
     ),
     (
-        Status::DirectoryError { condition: 2 },
+        Status::DirectoryError(DirFault::NoDirectory),
         "71,DIR ERROR,02,00\n",
     ),
     (Status::DiskFull, "72,DISK FULL,00,00\n"),
-    (Status::HostFile { fault: 2 }, "80,HOST FILE,02,00\n"),
+    (Status::HostFile(HostFault::Device), "80,HOST FILE,02,00\n"),
     (Status::NothingToUndo, "81,NOTHING TO UNDO,00,00\n"),
     (Status::NothingToRedo, "82,NOTHING TO REDO,00,00\n"),
     (Status::NotOneBlock, "83,NOT ONE BLOCK,00,00\n"),
     (
-        Status::BasicText { fault: 1, line: 1 },
+        Status::BasicText(BasicFault::NoNumber { line: 1 }),
         "84,BASIC TEXT,01,01\n",
     ),
-    (Status::NotBasic { fault: 1 }, "85,NOT BASIC,01,00\n"),
+    (
+        Status::NotBasic(ListFault::NoAddress),
+        "85,NOT BASIC,01,00\n",
+    ),
     (Status::FileLost, "86,FILE LOST,00,00\n"),
     (Status::OutOfMemory, "90,OUT OF MEMORY,00,00\n"),
 ];

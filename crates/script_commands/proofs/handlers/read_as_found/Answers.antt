@@ -5,7 +5,7 @@ use Rattle.petscii.specs.Spelling.{spelling}
 use Rattle.d64_dos.specs.Reading.{read_refusal}
 use Rattle.script_lines.specs.FoundFile.{found_name, found_content, can_name_file}
 use Rattle.d64_history.specs.History.{present_image}
-use Rattle.script_text.specs.declared.status.Status.TheVariants.{BadName}
+use Rattle.script_lines.specs.declared.status.Status.TheVariants.{BadName}
 use Rattle.script_lines.proofs.Acts.{Does-given, Does-refuse, Does-refuse_by}
 use Rattle.script_lines.proofs.FoundFiles.{found_name-read, found_content-read}
 use Rattle.script_commands.proofs.handlers.read_as_found.Goals as goal

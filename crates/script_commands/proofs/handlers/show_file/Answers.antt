@@ -1,6 +1,6 @@
 use Rattle.std.proofs.Common.{◌≡◌, ◌∙◌, ℕ, List, [], None, Ok, false, refl, sym, ap, subst, rules}
 use Rattle.d64_dos.specs.Reading.{read_refusal}
-use Rattle.script_text.specs.declared.status.Status.TheVariants.{Done}
+use Rattle.script_lines.specs.declared.status.Status.TheVariants.{Done}
 use Rattle.script_lines.specs.Act.{Room, Does, LineResponse, World}
 use Rattle.script_lines.specs.FileText.{typed_text}
 use Rattle.script_lines.specs.FoundFile.{found_content}

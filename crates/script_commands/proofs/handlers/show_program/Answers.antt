@@ -1,6 +1,6 @@
 use Rattle.std.proofs.Common.{◌≡◌, ◌∙◌, ℕ, List, None, Ok, false, refl, sym, subst, rules}
 use Rattle.d64_dos.specs.Reading.{read_refusal}
-use Rattle.script_text.specs.declared.status.Status.TheVariants.{Done}
+use Rattle.script_lines.specs.declared.status.Status.TheVariants.{Done}
 use Rattle.script_lines.specs.Act.{Expand, Does, LineResponse, World}
 use Rattle.script_lines.specs.FoundFile.{found_content}
 use Rattle.script_lines.specs.Line.{show, show_program}
@@ -35,5 +35,5 @@ returns c = λ host.
     let refused : None ≡ read_refusal (present_image history) pattern = rw (c.image.ensures.present, got) at c.read.ensures.refused in
     let bytes : c.as_slice.result.now ≡ found_content (present_image history) pattern =
     c.as_slice.ensures.value ∙ found_content-read (present_image history) pattern _ _ (rw (c.image.ensures.present, got) at c.read.ensures.back) in
-    rw c.of_list_fault.ensures
+    rw c.from.ensures
     (Does-refuse_by _ _ _ _ _ refused (Does-refused _ _ _ host host _ ((c.in-Err.fault, rw bytes at c.in-Err.ensures, refl), refl)))

@@ -4,21 +4,22 @@ use Rattle.d64_history.specs.History.{present_image}
 use Rattle.script_lines.specs.Line.{leave}
 use Rattle.script_lines.specs.Response.{shown_response}
 use Rattle.script_lines.proofs.Acts.{Does-given, Does-refused}
+use Rattle.script_commands.proofs.Refused.{responds_refused}
 use Rattle.script_commands.proofs.handlers.store.Goals as goal
 
-pub returns-in-Ok : goal.returns-in-Ok
+pub returns : goal.returns
 unfolding Does
-returns-in-Ok g c = λ history.
+returns g c = λ history.
     let old = g.H.Host.state c.args.host.now in
     let new = g.H.Host.state c.store.new.self in
     let after : World = record { host = new; history = history } in
     let gives : CallGives (Store c.args.name.now c.args.bytes.now) old (Ok []) new =
-    (Ok tt, record { response = c.in-Ok.ensures.stored; counted = c.in-Ok.ensures.counted }, refl) in
+    (Ok tt, record { response = c.in_ok-store.ensures.stored; counted = c.in_ok-store.ensures.counted }, refl) in
     let done : Does (leave history) after (shown_response (present_image history) c.plain.result) after = (c.plain.ensures (present_image history), refl) in
     Does-given (Store c.args.name.now c.args.bytes.now) (λ stored. leave history) [] old new history (shown_response (present_image history) c.plain.result) after gives done
 
-pub returns-in-Err : goal.returns-in-Err
-returns-in-Err g c = λ history.
-    rw c.of_fault.ensures
+pub returns-in_err-store : goal.returns-in_err-store
+returns-in_err-store g c = λ history.
+    responds_refused _ _ _ history history _ _ c.from_residual.ensures.1
     (Does-refused _ _ _ _ _ history
-    (Err c.in-Err.fault, record { response = c.in-Err.ensures.stored; counted = c.in-Err.ensures.counted }, refl))
+    (Err c.in_err-store.field-0.0, record { response = c.in_err-store.ensures.stored; counted = c.in_err-store.ensures.counted }, refl))

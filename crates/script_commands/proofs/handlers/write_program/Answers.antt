@@ -1,13 +1,11 @@
 use Rattle.std.proofs.Common.{refl}
 use Rattle.script_lines.proofs.Acts.{Does-given}
-use Rattle.script_lines.proofs.BasicActs.{Does-uncrunched, fault_line-fits}
+use Rattle.script_lines.proofs.BasicActs.{Does-uncrunched}
+use Rattle.script_commands.proofs.Refused.{responds_refused}
 use Rattle.script_commands.proofs.handlers.write_program.Goals as goal
 
-pub of_basic_fault-requires : goal.of_basic_fault-requires
-of_basic_fault-requires c = fault_line-fits _ _ c.requires c.in-Err.ensures.place
+pub returns : goal.returns
+returns c = λ host. Does-given _ _ c.in_ok-bytes.bytes.items host host _ _ _ (c.in_ok-bytes.ensures.crunched, refl) (c.run_command.ensures host)
 
-pub returns-in-Ok : goal.returns-in-Ok
-returns-in-Ok c = λ host. Does-given _ _ c.in-Ok.bytes.items host host _ _ _ (c.in-Ok.ensures.crunched, refl) (c.run_command.ensures host)
-
-pub returns-in-Err : goal.returns-in-Err
-returns-in-Err c = λ host. rw c.of_basic_fault.ensures (Does-uncrunched _ _ c.in-Err.fault host _ c.in-Err.ensures.fault)
+pub returns-in_err-bytes : goal.returns-in_err-bytes
+returns-in_err-bytes c = λ host. responds_refused _ host host _ _ _ _ c.from_residual.ensures.1 (Does-uncrunched _ _ c.in_err-bytes.field-0.0 host _ c.in_err-bytes.ensures.fault)

@@ -1,6 +1,6 @@
 -- The input was had and what the tool made of it stored or not, or the run ended before.
 use Rattle.std.proofs.Common.{List, ℕ, Err, refl, ap, subst, option_copied}
-use Rattle.program_console.specs.Outside.{Outside, account_at, outside_at}
+use Rattle.program_console.specs.Outside.{account_at}
 use Rattle.cmd_basic.specs.ToolRuns.{ReportsStored}
 use Rattle.cmd_basic.specs.Tools.{HasStored}
 use Rattle.cmd_basic.proofs.StoredRuns.{ended_with_input, ended_without_input, stored_not_read}

@@ -2,7 +2,7 @@ use Rattle.std.proofs.Common.{◌++◌, Result, Ok, Err, ap, sym, ◌∙◌, app
 use Rattle.std.specs.Prelude.{OnErr}
 use Rattle.std.proofs.lemmas.Result.{err_from_is_err_and}
 use Rattle.std.proofs.KnownBytes.{Appends-trans}
-use Rattle.script_text.specs.Status.{status_line}
+use Rattle.script_lines.specs.Status.{status_line}
 use Rattle.script_lines.specs.Response.{output_bytes}
 use Rattle.script_lines.proofs.response.Response.write.Goals as goal
 

@@ -1,9 +1,9 @@
 use Rattle.std.proofs.Common.{ap, length, arith}
 use Rattle.std.proofs.lemmas.Fmt.{decimal_digit}
 use Rattle.std.proofs.lemmas.Grind.{common_steps}
-use Rattle.script_text.proofs.TwoDigits.{two_digits-short, two_digits-long}
-use Rattle.script_text.proofs.status.push_number.Goals as goal
-use Rattle.script_text.proofs.status.push_number.Goals.{then-number-lt10, else-number-lt10}
+use Rattle.script_lines.proofs.TwoDigits.{two_digits-short, two_digits-long}
+use Rattle.script_lines.proofs.status.push_number.Goals as goal
+use Rattle.script_lines.proofs.status.push_number.Goals.{then-number-lt10, else-number-lt10}
 
 pub push_bytes-requires-2 : goal.push_bytes-requires-2
 push_bytes-requires-2 c =

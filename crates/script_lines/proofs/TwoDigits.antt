@@ -2,7 +2,7 @@
 use Rattle.std.proofs.Common.{◌≡◌, ℕ, ◌<◌, ◌≤◌, ◌++◌, codes, arith}
 use Rattle.std.specs.Fmt.{decimal}
 use Rattle.std.proofs.lemmas.Bool.Decides.{nat_tests}
-use Rattle.script_text.specs.Status.{two_digits}
+use Rattle.script_lines.specs.Status.{two_digits}
 
 -- a number of one digit
 pub two_digits-short : (n : ℕ) → n < 10 → two_digits n ≡ codes "0" ++ decimal n

@@ -1,9 +1,12 @@
 //! The statuses of lines, and the status line of each.
 ghost use Rattle.std.specs.Prelude.{◌≡◌, ◌+◌, ◌≤◌, ◌++◌, length};
 ghost use Rattle.arrayvec.specs.ArrayVec.{array_vec_len};
-ghost use Rattle.script_text.specs.Status.{is_accepted, status_row, status_details, status_line, two_digits};
+ghost use Rattle.script_lines.specs.Status.{is_accepted, status_row, status_details, status_line, two_digits};
 
 use arrayvec::ArrayVec;
+use cbm_text::{BasicFault, ListFault};
+use d64_files::DirFault;
+use host_storage::HostFault;
 use itoa::Buffer;
 use std::alloc::AllocError;
 
@@ -21,10 +24,10 @@ pub enum Status {
     Done,
     /// 01: the line was accepted, and this many files were deleted.
     FilesScratched { count: usize },
-    /// 30: the line has a byte or a quote that no line has, too many words, or a word that its
-    /// command does not take.
+    /// 30: the line has a byte or a quote that no line has, too many arguments, or an argument that
+    /// its command does not take.
     SyntaxError,
-    /// 31: the first word is no command.
+    /// 31: there is no such command.
     UnknownCommand,
     /// 32: the line is longer than 1,024 bytes.
     LongLine,
@@ -42,31 +45,31 @@ pub enum Status {
     FileTypeMismatch,
     /// 66: the disk has no such block.
     IllegalBlock { track: u8, sector: u8 },
-    /// 71: the directory or the block map fails this condition of a sound disk, from 1 to 6.
-    DirectoryError { condition: u8 },
+    /// 71: the directory or the block map fails this condition of a sound disk.
+    DirectoryError(DirFault),
     /// 72: the disk or its directory is full.
     DiskFull,
-    /// 80: the host file is missing (1), its device fails (2), or it is too long (3).
-    HostFile { fault: u8 },
+    /// 80: the host refuses the file with this fault.
+    HostFile(HostFault),
     /// 81: no command comes before the present image.
     NothingToUndo,
     /// 82: no command was undone.
     NothingToRedo,
     /// 83: the host file isn't 256 bytes long.
     NotOneBlock,
-    /// 84: the text isn't a BASIC program, for this fault in this line of the text, from 1.
-    BasicText { fault: u8, line: u32 },
+    /// 84: the text isn't a BASIC program, because of this fault.
+    BasicText(BasicFault),
     /// 85: the file isn't a BASIC program, because of this fault.
-    NotBasic { fault: u8 },
+    NotBasic(ListFault),
     /// 86: what was deleted under this name can't be brought back.
     FileLost,
-    /// 90: memory is out.
+    /// 90: out of memory.
     OutOfMemory,
 }
 
 impl From<AllocError> for Status {
     ghost use Rattle.std.specs.Prelude.{◌≡◌};
-    ghost use Rattle.script_text.specs.declared.status.Status.TheVariants.{OutOfMemory};
+    ghost use Rattle.script_lines.specs.declared.status.Status.TheVariants.{OutOfMemory};
 
     ghost from_gives = { λ _ status. status ≡ OutOfMemory };
 
@@ -127,14 +130,14 @@ impl Status {
             Status::FileExists => (63, b"FILE EXISTS"),
             Status::FileTypeMismatch => (64, b"FILE TYPE MISMATCH"),
             Status::IllegalBlock { .. } => (66, b"ILLEGAL TRACK AND SECTOR"),
-            Status::DirectoryError { .. } => (71, b"DIR ERROR"),
+            Status::DirectoryError(_) => (71, b"DIR ERROR"),
             Status::DiskFull => (72, b"DISK FULL"),
-            Status::HostFile { .. } => (80, b"HOST FILE"),
+            Status::HostFile(_) => (80, b"HOST FILE"),
             Status::NothingToUndo => (81, b"NOTHING TO UNDO"),
             Status::NothingToRedo => (82, b"NOTHING TO REDO"),
             Status::NotOneBlock => (83, b"NOT ONE BLOCK"),
-            Status::BasicText { .. } => (84, b"BASIC TEXT"),
-            Status::NotBasic { .. } => (85, b"NOT BASIC"),
+            Status::BasicText(_) => (84, b"BASIC TEXT"),
+            Status::NotBasic(_) => (85, b"NOT BASIC"),
             Status::FileLost => (86, b"FILE LOST"),
             Status::OutOfMemory => (90, b"OUT OF MEMORY"),
         }
@@ -147,9 +150,12 @@ impl Status {
         match *self {
             Status::FilesScratched { count } => (count as u64, 0),
             Status::IllegalBlock { track, sector } => (u64::from(track), u64::from(sector)),
-            Status::DirectoryError { condition } => (u64::from(condition), 0),
-            Status::HostFile { fault } | Status::NotBasic { fault } => (u64::from(fault), 0),
-            Status::BasicText { fault, line } => (u64::from(fault), u64::from(line)),
+            Status::DirectoryError(fault) => (u64::from(fault.number()), 0),
+            Status::HostFile(fault) => (u64::from(fault.number()), 0),
+            Status::BasicText(fault) => {
+                (u64::from(fault.number()), fault.line().unwrap_or(0) as u64)
+            }
+            Status::NotBasic(fault) => (u64::from(fault.number()), 0),
             _ => (0, 0),
         }
     }
