@@ -1,6 +1,6 @@
 //! The observer that explains refused lines to a person, and what happens to changes that are not
 //! saved.
-ghost use Rattle.std.specs.Prelude.{◌≡◌, ◌⊎◌, ℕ, List, [], Some, None, IfSome, option_copied, if◌then◌else◌, ◌++◌, ◌&&◌, ◌||◌, ◌-◌, codes, length, not, take, false, true};
+ghost use Rattle.std.specs.Prelude.{◌≡◌, ◌≢◌, ◌⊎◌, ℕ, List, [], Some, None, IfSome, option_copied, if◌then◌else◌, ◌++◌, ◌&&◌, ◌||◌, ◌-◌, codes, length, not, take, false, true};
 ghost use Rattle.host_storage.specs.Files.{HostState};
 ghost use Rattle.script_text.specs.HeldLine.{HoldsText};
 ghost use Rattle.host_storage.specs.Output.{Writes};
@@ -86,6 +86,9 @@ impl<'w, W: Write, H: Host> Advisor<'w, W, H> {
         ensures lent { result.output.writer.ghost_name ≡ writer.entry.ghost_name }
         ensures same { result.output.writer.now ≡ writer.old }
         ensures terminal { result.is_terminal ≡ is_terminal }
+        ensures unread { (result.lines ≡ 0) × (result.first_bytes.items ≡ []) }
+        ensures unasked { (result.is_shown ≡ false) × (result.unfit ≡ None) × (result.is_prompting ≡ false) }
+        ensures unleft { result.is_left ≡ false }
     {
         Advisor {
             alloc,
@@ -131,6 +134,8 @@ impl<'w, W: Write, H: Host> Advisor<'w, W, H> {
         ensures numbered { self.new.is_numbered ≡ (opening.now.is_given || stops_at_refusal opening.now.refusals) }
         ensures kept { self.new.is_typed ≡ true → self.new.kept ≡ Some (kept_in (present_image session.now) (option_copied opening.now.held_in)) }
         ensures name { self.new.is_typed ≡ true → IfSome self.new.name (λ name. name.items ≡ name_in_prompt (option_copied opening.now.home)) }
+        ensures counted { self.new.is_typed ≡ true → (self.new.files ≡ file_count (present_image session.now)) × (self.new.done ≡ session.now.cursor) }
+        ensures left { self.new.is_left ≡ self.old.is_left }
     {
         self.is_typed = self.is_terminal && !opening.is_given;
         self.is_numbered = opening.is_given || matches!(opening.refusals, Refusals::Stop);
@@ -147,6 +152,8 @@ impl<'w, W: Write, H: Host> Advisor<'w, W, H> {
         ensures lent { self.new.output.writer.ghost_name ≡ self.old.output.writer.ghost_name }
         ensures asked { Writes (account_at W.contents self.old.output) (account_at W.contents self.new.output)
             (prompt (option_map_or (λ name. name.items) self.old.name (codes "d64sh")) (is_unsaved self.old.kept image.now)) }
+        ensures prompting { self.new.is_prompting ≡ true }
+        ensures left { self.new.is_left ≡ self.old.is_left }
     {
         let is_unsaved = is_unsaved(self.kept, image);
         let _ = write_prompt(&mut self.output, bytes_of(&self.name, b"d64sh"), is_unsaved);
@@ -166,6 +173,7 @@ impl<'w, W: Write, H: Host> Advisor<'w, W, H> {
             × MaySay (H.state self.old.host) image.now start (parts_of_line raw) status.now said
             × Writes (account_at W.contents self.old.output) (account_at W.contents self.new.output) said }
         ensures silent { is_accepted status.now ≡ true → self.new.output ≡ self.old.output }
+        ensures left { self.new.is_left ≡ self.old.is_left }
     {
         let parts = LineParts::of(line);
         if status.is_accepted() {
@@ -237,6 +245,7 @@ impl<'w, W: Write, H: Host> Advisor<'w, W, H> {
         ensures explained { (raw : List ℕ) → HoldsText line.now raw → (said : List ℕ) × MayRemark raw status.now image.now self.old.files said
             × Writes (account_at W.contents self.old.output) (account_at W.contents self.new.output) said }
         ensures files { self.new.files ≡ file_count image.now }
+        ensures left { self.new.is_left ≡ self.old.is_left }
     {
         let text = text_of(line, b"");
         let parts = LineParts::of(line);
@@ -256,6 +265,7 @@ impl<'w, W: Write, H: Host> Advisor<'w, W, H> {
         ensures redone { (raw : List ℕ) → HoldsText line.now raw → command_of raw ≡ Some Redo
             → Writes (account_at W.contents self.old.output) (account_at W.contents self.new.output) (redone_line (known_line self.old.past self.old.done)) }
         ensures left { (raw : List ℕ) → HoldsText line.now raw → command_of raw ≡ Some Quit → self.new.is_left ≡ true }
+        ensures stays { (raw : List ℕ) → HoldsText line.now raw → command_of raw ≢ Some Quit → self.new.is_left ≡ self.old.is_left }
     {
         let before = self.done;
         self.done = session.done();

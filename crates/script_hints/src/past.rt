@@ -1,5 +1,5 @@
 //! The lines that made the changes of a session.
-ghost use Rattle.std.specs.Prelude.{◌≡◌, ◌≢◌, ◌≤◌, ◌+◌, ℕ, [], ◌∷◌, ◌++◌, length, None, Vec, MatchResult, option_copied};
+ghost use Rattle.std.specs.Prelude.{◌≡◌, ◌≢◌, ◌≤◌, ◌<◌, ◌+◌, ℕ, [], ◌∷◌, ◌++◌, length, None, Vec, MatchResult, option_copied};
 ghost use Rattle.script_hints.specs.LineStart.{shown_raw_line};
 ghost use Rattle.script_hints.specs.Past.{IsKnownAfter, known_line};
 
@@ -38,7 +38,9 @@ impl Past {
     /// Keeps the line that made the change with this number, if there is memory. The lines of later
     /// changes are dropped.
     pub(crate) fn record(&mut self, number: usize, line: &[u8])
-        ensures { (other : ℕ) → IsKnownAfter self.old number (shown_raw_line line.now) other (known_line self.new other) }
+        ensures known { (other : ℕ) → IsKnownAfter self.old number (shown_raw_line line.now) other (known_line self.new other) }
+        ensures kept { (other : ℕ) → self.old.first ≤ number → number ≤ self.old.first + length self.old.lines.items → other < number
+            → known_line self.new other ≡ known_line self.old other }
     {
         let place = self.place_for(number);
         self.lines.truncate(place);
@@ -52,6 +54,7 @@ impl Past {
         ensures place { self.new.first + result ≡ number }
         ensures follows { result ≤ length self.old.lines.items }
         ensures first { result ≢ 0 → self.new.first ≡ self.old.first }
+        ensures next { self.old.first ≤ number → number ≤ self.old.first + length self.old.lines.items → self.new.first ≡ self.old.first }
     {
         match number.checked_sub(self.first) {
             Some(place) if place <= self.lines.len() => place,
