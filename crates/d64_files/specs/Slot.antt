@@ -70,6 +70,10 @@ name_of cell = name_in (field_of cell)
 abbrev pub side_pair : Bytes → Option (ℕ × ℕ)
 side_pair cell = if slice_index cell 0x15 == 0 then None else Some (slice_index cell 0x15, slice_index cell 0x16)
 
+-- the length of a REL file's records
+abbrev pub record_length : Bytes → ℕ
+record_length cell = slice_index cell 0x17
+
 -- the type of a GEOS file, and 0 for other files
 abbrev pub geos_type : Bytes → ℕ
 geos_type cell = slice_index cell 0x18

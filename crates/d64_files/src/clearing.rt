@@ -2,19 +2,17 @@
 //! format").
 //!
 //! They write through a patch, so that their changes can be undone.
-ghost use Rattle.std.specs.Prelude.{◌≡◌, ◌+◌, ◌<◌, ◌≤◌, length, OnOk};
+ghost use Rattle.std.specs.Prelude.{◌≡◌, ◌+◌, ◌<◌, ◌≤◌, length, OnOk, OnErr};
 ghost use Rattle.d64_image.specs.Patch.{StillRestores};
 ghost use Rattle.d64_files.specs.Clearing.{with_cleared_slot, with_name, with_type};
 ghost use Rattle.d64_files.specs.Directory.{slots};
-ghost use Rattle.d64_files.specs.Name.{filled_field};
 ghost use Rattle.d64_files.specs.Writing.{with_bytes, slot_block, slot_start};
 
 use crate::block_bytes::write_at;
 use crate::directory_blocks::block_of_slot;
 use crate::entry::{SLOT_BYTES, SlotNo};
 use crate::kind::Kind;
-use crate::label::MAX_LEN;
-use crate::name::{FILLER, Name};
+use crate::name::Name;
 use crate::slots::SLOTS_PER_BLOCK;
 use crate::writing::CLOSED;
 use d64_image::{Image, Patch};
@@ -38,22 +36,13 @@ fn write_in_slot(
     requires part { place + length part.now ≤ 30 }
     ensures written { OnOk result (image.new ≡ with_bytes image.old (slot_block image.old slot) (slot_start slot + place) part.now) }
     ensures back { StillRestores image.old patch.old image.new patch.new }
+    ensures unchanged { OnErr result ((image.new ≡ image.old) × (patch.new ≡ patch.old)) }
 {
     let block = block_of_slot(image, slot);
     let start = SLOT_BYTES * (slot.place() % SLOTS_PER_BLOCK) + TYPE_BYTE;
     let mut bytes = *image.sector(block);
     write_at(&mut bytes, start + place, part);
     patch.write(image, block, &bytes)
-}
-
-/// A name in its field of 16 bytes, filled with shifted spaces.
-fn filled(name: &Name) -> [u8; MAX_LEN]
-    ensures { result ≡ filled_field name.now }
-{
-    let name = name.bytes();
-    let mut field = [FILLER; MAX_LEN];
-    field[..name.len()].copy_from_slice(name);
-    field
 }
 
 /// Makes a slot of the directory an unused one: its type byte becomes $00. The rest of its entry
@@ -66,6 +55,7 @@ pub fn clear_slot(image: &mut Image, patch: &mut Patch, slot: SlotNo) -> Result<
     requires { slot < length (slots image.old) }
     ensures cleared { OnOk result (image.new ≡ with_cleared_slot image.old slot) }
     ensures back { StillRestores image.old patch.old image.new patch.new }
+    ensures unchanged { OnErr result ((image.new ≡ image.old) × (patch.new ≡ patch.old)) }
 {
     write_in_slot(image, patch, slot, 0, &[0])
 }
@@ -86,6 +76,7 @@ pub fn set_type(
     requires { slot < length (slots image.old) }
     ensures typed { OnOk result (image.new ≡ with_type image.old slot kind) }
     ensures back { StillRestores image.old patch.old image.new patch.new }
+    ensures unchanged { OnErr result ((image.new ≡ image.old) × (patch.new ≡ patch.old)) }
 {
     write_in_slot(image, patch, slot, 0, &[CLOSED + kind.number()])
 }
@@ -105,6 +96,7 @@ pub fn set_name(
     requires { slot < length (slots image.old) }
     ensures named { OnOk result (image.new ≡ with_name image.old slot name.now) }
     ensures back { StillRestores image.old patch.old image.new patch.new }
+    ensures unchanged { OnErr result ((image.new ≡ image.old) × (patch.new ≡ patch.old)) }
 {
-    write_in_slot(image, patch, slot, NAME_AFTER_TYPE, &filled(name))
+    write_in_slot(image, patch, slot, NAME_AFTER_TYPE, &name.field())
 }

@@ -1,7 +1,7 @@
 //! The slots of a directory, one at a time.
 ghost use Rattle.std.specs.Prelude.{◌≡◌, ◌*◌, ◌+◌, ◌≤◌, ◌==◌, ◌||◌, bytes_eq, length, option_map, slice_index};
 ghost use Rattle.d64_files.specs.Chain.{block_in};
-ghost use Rattle.d64_files.specs.Slot.{type_byte, has_kind, is_used, kind_of, is_locked, is_closed, first_pair, field_of, name_of, side_pair, geos_type, size_of};
+ghost use Rattle.d64_files.specs.Slot.{type_byte, has_kind, is_used, kind_of, is_locked, is_closed, first_pair, field_of, name_of, side_pair, record_length, geos_type, size_of};
 
 use crate::chain::block_in;
 use crate::kind::Kind;
@@ -194,6 +194,13 @@ impl<'a> Entry<'a> {
         } else {
             Some((self.bytes[0x15], self.bytes[0x16]))
         }
+    }
+
+    /// The byte $17 of the slot: the length in bytes of a REL file's records.
+    pub fn record_length(&self) -> u8
+        ensures { result ≡ record_length self.now.bytes }
+    {
+        self.bytes[0x17]
     }
 
     /// The byte $18 of the slot: the type of a GEOS file, and 0 for other files.

@@ -6,7 +6,7 @@ ghost use Rattle.d64_files.specs.Writing.{number_of_kind};
 /// image format").
 #[derive(Clone, Copy, Debug, PartialEq, Eq, Hash)]
 pub enum Kind {
-    /// DEL, number 0: a deleted file.
+    /// DEL, number 0: an entry without content.
     Del,
     /// SEQ, number 1: a sequential file.
     Seq,

@@ -1,7 +1,7 @@
 //! The names of files and disks.
 ghost use Rattle.std.specs.Prelude.{◌≡◌, ◌↔◌, IsOk, is_ok, IfOk, IfErr};
 ghost use Rattle.d64_files.specs.Label.{IsLabelFault};
-ghost use Rattle.d64_files.specs.Name.{IsName, is_name, name_in, forbidden_in_names};
+ghost use Rattle.d64_files.specs.Name.{IsName, is_name, name_in, filled_field, forbidden_in_names};
 
 use crate::label::{BadName, MAX_LEN, label};
 use arrayvec::ArrayVec;
@@ -66,6 +66,16 @@ impl Name {
         ensures name { IsName self.now }
     {
         self.text.as_slice()
+    }
+
+    /// The 16 bytes of a name's field: the name, and then shifted spaces ($A0) (1541 User's Guide).
+    pub fn field(&self) -> [u8; MAX_LEN]
+        ensures { result ≡ filled_field self.now }
+    {
+        let name = self.bytes();
+        let mut field = [FILLER; MAX_LEN];
+        field[..name.len()].copy_from_slice(name);
+        field
     }
 
     /// Does nothing: its contract states what a name is, for callers that need it in a proof.

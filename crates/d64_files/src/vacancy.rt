@@ -59,9 +59,8 @@ impl Directory<'_> {
         let blocks = self.blocks();
         for place in 0..blocks.len() {
             let block = self.image().sector(blocks[place]);
-            match first_empty_of(block, SLOTS_PER_BLOCK * place) {
-                Some(slot) => return Some(slot),
-                None => {}
+            if let Some(slot) = first_empty_of(block, SLOTS_PER_BLOCK * place) {
+                return Some(slot);
             }
         }
         None

@@ -1,5 +1,6 @@
 -- a search along lists, one after another
 use Rattle.std.proofs.Common.{◌≡◌, ℕ, zero, suc, ◌+◌, ◌-◌, ◌<◌, ◌≤◌, Bool, true, false, cond, ltb, Option, Some, None, List, ◌∷◌, ◌++◌, map, take, drop, refl, sym, ap, ◌∙◌, arith}
+use Rattle.std.specs.Prelude.{MatchOption}
 use Rattle.std.specs.List.{range_with_len, flat_map, find}
 use Rattle.std.specs.Option.{option_or}
 use Rattle.std.proofs.lemmas.Bool.{eq-eqb, ne_eqb, lt-ltb, le-ltb, cond-true, cond-false}
@@ -45,6 +46,17 @@ found_first p xs ys x here = find-append p xs ys ∙ ap (λ (o : Option ℕ). op
 
 pub found_second : (p : ℕ → Bool) (xs ys : List ℕ) → find p xs ≡ None → find p (xs ++ ys) ≡ find p ys
 found_second p xs ys none = find-append p xs ys ∙ ap (λ (o : Option ℕ). option_or o (find p ys)) none
+
+-- a search of one list and then, if nothing is found, of another
+pub found_either : (p : ℕ → Bool) (xs ys : List ℕ) {Second : Type 0} (first result : Option ℕ) → first ≡ find p xs → (Second → result ≡ find p ys) → MatchOption first Second (λ x. result ≡ Some x)
+    → result ≡ find p (xs ++ ys)
+found_either p xs ys None result here later second = later second ∙ sym (found_second p xs ys (sym here))
+found_either p xs ys (Some x) result here later is = is ∙ sym (found_first p xs ys x (sym here))
+
+-- what is no block is None
+pub not_found : (found : Option ℕ) → ((x : ℕ) → found ≡ Some x → ⊥) → found ≡ None
+not_found None none = refl
+not_found (Some x) none = absurd (none x refl)
 
 -- a part of a range
 pub drop-range : (a n k : ℕ) → drop k (range_with_len a n) ≡ range_with_len (a + k) (n - k)

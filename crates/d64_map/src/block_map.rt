@@ -1,5 +1,5 @@
 //! The block allocation map, read and written.
-ghost use Rattle.std.specs.Prelude.{◌≡◌, ℕ, ◌+◌, ◌/◌, ◌<◌, ◌≤◌, ◌==◌, ◌↔◌, true, false, length, slice_index, IsTrue, OnOk};
+ghost use Rattle.std.specs.Prelude.{◌≡◌, ℕ, ◌+◌, ◌/◌, ◌<◌, ◌≤◌, ◌==◌, ◌↔◌, true, false, length, slice_index, IsTrue, OnOk, OnErr};
 ghost use Rattle.std.specs.Int.{bit_at};
 ghost use Rattle.std.specs.FinSet as set;
 ghost use Rattle.d64_image.specs.Block.{first_block};
@@ -184,6 +184,7 @@ pub fn put_map(image: &mut Image, patch: &mut Patch, free: &BlockSet) -> Result<
     ensures free { OnOk result (free_blocks image.new ≡ free.now) }
     ensures counts { OnOk result (CountsFit image.new) }
     ensures back { StillRestores image.old patch.old image.new patch.new }
+    ensures unchanged { OnErr result ((image.new ≡ image.old) × (patch.new ≡ patch.old)) }
 {
     let mut map = *map_of(image);
     for track in image.each_track() {

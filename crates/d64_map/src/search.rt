@@ -87,13 +87,10 @@ fn pick_between(free: &BlockSet, track: TrackNo, start: u8, end: u8) -> Option<B
 {
     let first = first_block(track);
     for sector in start..end {
-        match BlockNo::at(first + usize::from(sector)) {
-            Some(block) => {
-                if free.has(block) {
-                    return Some(block);
-                }
-            }
-            None => {}
+        if let Some(block) = BlockNo::at(first + usize::from(sector))
+            && free.has(block)
+        {
+            return Some(block);
         }
     }
     None
@@ -114,10 +111,8 @@ fn pick_around(free: &BlockSet, track: TrackNo, start: u8) -> Option<BlockNo>
     requires { start ≤ sectors_on track }
     ensures { result ≡ find (set.contains free.now) (rotated_list start (blocks_on track)) }
 {
-    match pick_between(free, track, start, sector_count(track)) {
-        Some(block) => Some(block),
-        None => pick_between(free, track, 0, start),
-    }
+    let end = sector_count(track);
+    pick_between(free, track, start, end).or_else(|| pick_between(free, track, 0, start))
 }
 
 /// The first free block on the tracks of a side from one distance up to another.
@@ -127,9 +122,8 @@ fn pick_along(free: &BlockSet, side: Side, start: u8, end: u8) -> Option<BlockNo
     ensures { result ≡ find (set.contains free.now) (flat_map blocks_on (tracks_along side start (end - start))) }
 {
     for distance in start..end {
-        match pick_on(free, side.track(distance)) {
-            Some(block) => return Some(block),
-            None => {}
+        if let Some(block) = pick_on(free, side.track(distance)) {
+            return Some(block);
         }
     }
     None
@@ -141,15 +135,11 @@ fn pick_beyond(free: &BlockSet, side: Side, distance: u8) -> Option<BlockNo>
     requires { (1 ≤ distance) × (distance ≤ reach side) }
     ensures { result ≡ find (set.contains free.now) (flat_map blocks_on (tracks_beyond side distance)) }
 {
-    match pick_along(free, side, distance + 1, side.reach() + 1) {
-        Some(block) => return Some(block),
-        None => {}
+    if let Some(block) = pick_along(free, side, distance + 1, side.reach() + 1) {
+        return Some(block);
     }
     let other = side.other();
-    match pick_along(free, other, 1, other.reach() + 1) {
-        Some(block) => Some(block),
-        None => pick_along(free, side, 1, distance),
-    }
+    pick_along(free, other, 1, other.reach() + 1).or_else(|| pick_along(free, side, 1, distance))
 }
 
 /// The sector at which the search goes on after a sector of a track with this many sectors.
@@ -173,13 +163,11 @@ fn pick_outward(free: &BlockSet) -> Option<BlockNo>
     ensures { result ≡ find (set.contains free.now) (flat_map (λ distance. blocks_on (18 - distance) ++ blocks_on (18 + distance)) (range_with_len 1 17)) }
 {
     for distance in 1..LOWER_REACH + 1 {
-        match pick_on(free, Side::Lower.track(distance)) {
-            Some(block) => return Some(block),
-            None => {}
+        if let Some(block) = pick_on(free, Side::Lower.track(distance)) {
+            return Some(block);
         }
-        match pick_on(free, Side::Upper.track(distance)) {
-            Some(block) => return Some(block),
-            None => {}
+        if let Some(block) = pick_on(free, Side::Upper.track(distance)) {
+            return Some(block);
         }
     }
     None
@@ -190,10 +178,7 @@ fn pick_outward(free: &BlockSet) -> Option<BlockNo>
 pub fn pick_first(free: &BlockSet) -> Option<BlockNo>
     ensures { result ≡ find (set.contains free.now) first_order }
 {
-    match pick_outward(free) {
-        Some(block) => Some(block),
-        None => pick_along(free, Side::Upper, LOWER_REACH + 1, UPPER_REACH + 1),
-    }
+    pick_outward(free).or_else(|| pick_along(free, Side::Upper, LOWER_REACH + 1, UPPER_REACH + 1))
 }
 
 /// The free block that a file's next block takes after the block that was taken last: ten sectors
@@ -207,9 +192,8 @@ pub fn pick_next(free: &BlockSet, last: BlockNo) -> Option<BlockNo>
     }
     let track = last.track_no();
     let start = sector_after(FILE_INTERLEAVE, sector_count(track), last.sector());
-    match pick_around(free, track, start) {
-        Some(block) => return Some(block),
-        None => {}
+    if let Some(block) = pick_around(free, track, start) {
+        return Some(block);
     }
     let (side, distance) = Side::of(track);
     pick_beyond(free, side, distance)

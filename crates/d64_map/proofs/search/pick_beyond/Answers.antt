@@ -1,10 +1,10 @@
-use Rattle.std.proofs.Common.{◌≡◌, ℕ, ◌+◌, ◌-◌, ◌++◌, Bool, List, sym, ap, ◌∙◌, arith}
+use Rattle.std.proofs.Common.{◌≡◌, ℕ, ◌+◌, ◌-◌, ◌++◌, Bool, List, sym, ap, ◌∙◌, arith, rules}
 use Rattle.std.specs.List.{find, flat_map}
 use Rattle.std.specs.FinSet as set
 use Rattle.d64_map.specs.Track.{blocks_on}
 use Rattle.d64_map.specs.Side.{other_side, reach, tracks_along}
 use Rattle.d64_map.specs.declared.search.Side.{Side}
-use Rattle.d64_map.proofs.Searching.{beyond, found_first, found_second}
+use Rattle.d64_map.proofs.Searching.{beyond, found_first, found_second, found_either, not_found}
 use Rattle.d64_map.proofs.search.pick_beyond.Goals as goal
 
 -- the blocks of the three parts
@@ -40,23 +40,15 @@ returns-in-Some c =
     (found_first p (first side distance) (second (other_side side)) c.in-Some.block
     (sym (c.in-Some.ensures ∙ on_side p side (distance + 1) c.reach.result c.reach.ensures.reach))))
 
-pub returns-in-Some-pick_along : goal.returns-in-Some-pick_along
-returns-in-Some-pick_along c =
+pub returns : goal.returns
+returns c =
     let p = set.contains c.args.free.now in
     let side = c.args.side in
     let distance = c.args.distance in
-    sym (ap (find p) (beyond side distance)
-    ∙ found_first p (first side distance ++ second (other_side side)) (third side distance) c.in-Some-pick_along.block
-    (found_second p (first side distance) (second (other_side side)) (sym (c.in-None.ensures ∙ on_side p side (distance + 1) c.reach.result c.reach.ensures.reach))
-    ∙ sym (c.in-Some-pick_along.ensures ∙ other_side-whole p side c.other-other.result c.reach-2.result c.other-other.ensures c.reach-2.ensures.reach)))
-
-pub returns-in-None-pick_along : goal.returns-in-None-pick_along
-returns-in-None-pick_along c =
-    let p = set.contains c.args.free.now in
-    let side = c.args.side in
-    let distance = c.args.distance in
-    c.pick_along-in-None-pick_along.ensures
-    ∙ sym (ap (find p) (beyond side distance)
-    ∙ found_second p (first side distance ++ second (other_side side)) (third side distance)
-    (found_second p (first side distance) (second (other_side side)) (sym (c.in-None.ensures ∙ on_side p side (distance + 1) c.reach.result c.reach.ensures.reach))
-    ∙ sym (c.in-None-pick_along.ensures ∙ other_side-whole p side c.other-other.result c.reach-2.result c.other-other.ensures c.reach-2.ensures.reach)))
+    found_either p (first side distance ++ second (other_side side)) (third side distance) c.pick_along-2.result c.or_else.result
+    (c.pick_along-2.ensures
+    ∙ other_side-whole p side c.other-other.result c.reach-2.result c.other-other.ensures c.reach-2.ensures.reach
+    ∙ sym (found_second p (first side distance) (second (other_side side)) (sym (sym (not_found c.pick_along.result c.in_default.not-Some) ∙ c.pick_along.ensures ∙ on_side p side (distance + 1) c.reach.result c.reach.ensures.reach))))
+    (λ later. search rules)
+    c.or_else.ensures
+    ∙ sym (ap (find p) (beyond side distance))

@@ -1,11 +1,11 @@
-use Rattle.std.proofs.Common.{◌≡◌, ℕ, ◌+◌, ◌-◌, ◌++◌, List, refl, sym, ap, ◌∙◌}
+use Rattle.std.proofs.Common.{◌≡◌, ℕ, ◌+◌, ◌-◌, ◌++◌, List, refl, sym, ap, ◌∙◌, rules}
 use Rattle.std.specs.List.{range_with_len, flat_map, find}
 use Rattle.std.specs.FinSet as set
 use Rattle.d64_map.specs.Track.{blocks_on}
 use Rattle.d64_map.specs.Search.{first_order}
 use Rattle.d64_map.specs.Side.{tracks_along}
 use Rattle.d64_map.specs.declared.search.Side.TheVariants.{Upper}
-use Rattle.d64_map.proofs.Searching.{found_first, found_second}
+use Rattle.d64_map.proofs.Searching.{found_either}
 use Rattle.d64_map.proofs.search.pick_first.Goals as goal
 
 -- the blocks of the tracks from 1 to 35, and those beyond
@@ -23,12 +23,10 @@ tracks_beyond : flat_map blocks_on (tracks_along Upper 18 5) ≡ beyond
 unfolding tracks_along
 tracks_beyond = refl
 
-pub returns-in-Some : goal.returns-in-Some
-returns-in-Some c =
+pub returns : goal.returns
+returns c =
     let p = set.contains c.args.free.now in
-    sym (ap (find p) order ∙ found_first p outward beyond c.in-Some.block (sym c.in-Some.ensures))
-
-pub returns-in-None : goal.returns-in-None
-returns-in-None c =
-    let p = set.contains c.args.free.now in
-    c.pick_along.ensures ∙ ap (find p) tracks_beyond ∙ sym (ap (find p) order ∙ found_second p outward beyond (sym c.in-None.ensures))
+    found_either p outward beyond c.pick_outward.result c.or_else.result c.pick_outward.ensures
+    (λ second. let found : c.or_else.result ≡ find p (flat_map blocks_on (tracks_along Upper 18 5)) = search rules in found ∙ ap (find p) tracks_beyond)
+    c.or_else.ensures
+    ∙ sym (ap (find p) order)

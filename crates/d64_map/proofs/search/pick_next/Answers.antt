@@ -4,7 +4,7 @@ use Rattle.std.specs.FinSet as set
 use Rattle.d64_image.specs.Block.{sectors_on, pair_at}
 use Rattle.d64_map.specs.Track.{blocks_on}
 use Rattle.d64_map.specs.Search.{rotated_list, sector_after, tracks_after}
-use Rattle.d64_map.proofs.Searching.{found_first, found_second, next_order-directory, next_order-other, tracks_after-is, around_is}
+use Rattle.d64_map.proofs.Searching.{found_first, found_second, not_found, next_order-directory, next_order-other, tracks_after-is, around_is}
 use Rattle.d64_map.proofs.search.pick_next.Goals as goal
 
 -- the blocks of the last block's own track, in the order of the search
@@ -34,4 +34,4 @@ returns c =
     c.pick_beyond.ensures
     ∙ ap (λ (ts : List ℕ). find p (flat_map blocks_on ts)) (sym beyond)
     ∙ sym (ap (find p) (next_order-other c.args.last (λ e. c.if-track-eq-DIRECTORY_TRACK.false (c.track.ensures.pair ∙ e)))
-    ∙ found_second p (own c.args.last) (others c.args.last) (ap (find p) (sym here) ∙ sym c.in-None.ensures))
+    ∙ found_second p (own c.args.last) (others c.args.last) (ap (find p) (sym here) ∙ sym (sym (not_found c.pick_around.result c.in_default.not-Some) ∙ c.pick_around.ensures)))

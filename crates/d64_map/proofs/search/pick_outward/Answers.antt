@@ -2,7 +2,7 @@ use Rattle.std.proofs.Common.{◌≡◌, ℕ, ◌+◌, ◌-◌, ◌++◌, Bool, 
 use Rattle.std.specs.List.{range_with_len, flat_map, find}
 use Rattle.std.specs.FinSet as set
 use Rattle.d64_map.specs.Track.{blocks_on}
-use Rattle.d64_map.proofs.Searching.{found_first, found_second, first_here, first_later}
+use Rattle.d64_map.proofs.Searching.{found_first, found_second, first_here, first_later, not_found}
 use Rattle.d64_map.proofs.search.pick_outward.Goals as goal
 
 -- the blocks of the two tracks at a distance
@@ -26,7 +26,7 @@ returns-in-Some-pick_on c =
     let d = c.loop-distance.distance in
     sym (c.loop-distance.invariant
     ∙ first_here p both d (18 - d) c.in-Some-pick_on.block (omega arith)
-    (found_second p (blocks_on (18 - d)) (blocks_on (18 + d)) (sym (c.in-None.ensures ∙ on p c.track.ensures)) ∙ sym (c.in-Some-pick_on.ensures ∙ on p c.track-in-loop-distance.ensures)))
+    (found_second p (blocks_on (18 - d)) (blocks_on (18 + d)) (sym (sym (not_found c.pick_on.result c.in_default.not-Some) ∙ c.pick_on.ensures ∙ on p c.track.ensures)) ∙ sym (c.in-Some-pick_on.ensures ∙ on p c.track-in-loop-distance.ensures)))
 
 pub loop-distance-preserved : goal.loop-distance-preserved
 loop-distance-preserved c =
@@ -34,5 +34,5 @@ loop-distance-preserved c =
     let d = c.loop-distance.distance in
     let n : 18 - d - 1 ≡ 18 - (d + 1) = omega arith in
     c.loop-distance.invariant
-    ∙ first_later p both d (18 - d) (omega arith) (found_second p (blocks_on (18 - d)) (blocks_on (18 + d)) (sym (c.in-None.ensures ∙ on p c.track.ensures)) ∙ sym (c.in-None-pick_on.ensures ∙ on p c.track-in-loop-distance.ensures))
+    ∙ first_later p both d (18 - d) (omega arith) (found_second p (blocks_on (18 - d)) (blocks_on (18 + d)) (sym (sym (not_found c.pick_on.result c.in_default.not-Some) ∙ c.pick_on.ensures ∙ on p c.track.ensures)) ∙ sym (sym (not_found c.pick_on-in-loop-distance.result c.in_default-pick_on.not-Some) ∙ c.pick_on-in-loop-distance.ensures ∙ on p c.track-in-loop-distance.ensures))
     ∙ ap (λ (k : ℕ). find p (flat_map both (range_with_len (d + 1) k))) n

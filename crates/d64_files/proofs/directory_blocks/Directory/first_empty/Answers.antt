@@ -1,4 +1,4 @@
-use Rattle.std.proofs.Common.{ℕ, ◌+◌, ◌*◌, List, Option, drop, length, not, sym, ap, ◌∙◌, arith}
+use Rattle.std.proofs.Common.{◌≡◌, ℕ, ◌+◌, ◌*◌, List, Option, drop, length, not, sym, ap, ◌∙◌, arith, rules, None}
 use Rattle.std.specs.List.{position_from}
 use Rattle.std.specs.Option.{option_or}
 use Rattle.std.proofs.lemmas.Iterator.Adapters.{position_from-zero}
@@ -40,10 +40,11 @@ returns-in-Some-clause-within c =
 
 pub loop-place-preserved : goal.loop-place-preserved
 loop-place-preserved c =
+    let none : c.first_empty_of.result ≡ None = search rules in
     let rest = position_from (λ cell. not (is_used cell)) (8 * (c.loop-place.place + 1)) (slots_in c.args.self.now (drop (c.loop-place.place + 1) c.blocks-blocks.result.now)) in
     sym (position_of_block (λ cell. not (is_used cell)) c.args.self.now c.image.result.now c.blocks-blocks.result.now c.sector-block.result.now c.loop-place.place c.index-blocks-place.result _
     c.image.ensures c.loop-place-test.true c.index-blocks-place.is c.sector-block.ensures.value c.first_empty_of.ensures.slot
-    ∙ ap (λ (here : Option ℕ). option_or here rest) c.in-None.is)
+    ∙ ap (λ (here : Option ℕ). option_or here rest) none)
     ∙ c.loop-place.invariant
 
 pub returns-clause-slot : goal.returns-clause-slot
