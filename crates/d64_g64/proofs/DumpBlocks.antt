@@ -74,7 +74,7 @@ first_of_all = first_block-first_zone 1 (omega arith)
 pub last_of_all : first_block 41 ≡ 768
 last_of_all = first_block-fourth_zone 41 (omega arith) (omega arith)
 
--- a sector that the track has, and one that it hasn't
+-- a sector that the track has, and one that it doesn't have
 pub has_sector : (number sector block : ℕ) → 1 ≤ number → number < 41 → block_of number sector ≡ Some block → sector < sectors_on number
 has_sector number sector block low high is = elim (cases_lt sector (sectors_on number)) [
   | inl within ↦ within

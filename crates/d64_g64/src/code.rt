@@ -45,20 +45,14 @@ pub(crate) fn value_at(start: &Start<'_>, k: usize) -> Option<u8>
 pub(crate) fn value_or_zero(found: Option<u8>) -> u8
     ensures { result ≡ value_or_zero found }
 {
-    match found {
-        Some(value) => value,
-        None => 0,
-    }
+    found.unwrap_or(0)
 }
 
 /// Whether there is a value, and it is this one.
 pub(crate) fn is_value(found: Option<u8>, wanted: u8) -> bool
     ensures { result ≡ is_value found wanted }
 {
-    match found {
-        Some(value) => value == wanted,
-        None => false,
-    }
+    found == Some(wanted)
 }
 
 /// The exclusive or of two values, or None if one of them is missing.

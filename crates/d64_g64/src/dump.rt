@@ -11,7 +11,7 @@ ghost use Rattle.d64_g64.specs.Dump.{id_in, first_codes, first_blocks, kept_coun
 use crate::block::read_block;
 use crate::fault::G64Fault;
 use crate::file::is_g64;
-use crate::header::{Id, disk_id};
+use crate::header::{DIRECTORY_TRACK, Id, disk_id};
 use crate::track::{TrackLists, read_track};
 use d64_image::{BLOCK_BYTES, BLOCKS, BlockNo, TrackNo};
 use std::alloc::{AllocError, Global};
@@ -24,9 +24,6 @@ const BLOCKS_OF_35: usize = 683;
 
 /// How many blocks the tracks 36 to 40 have.
 const BLOCKS_BEYOND: usize = 85;
-
-/// The track whose headers have the disk's id.
-const DIRECTORY_TRACK: u8 = 18;
 
 /// What was read of a disk, block by block.
 #[derive(Drop)]

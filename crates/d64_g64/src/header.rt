@@ -7,6 +7,9 @@ use crate::code::{are_equal, is_value, value_at, value_or_zero, xor_of};
 use crate::start::Start;
 use crate::track::{Track, count_starts, start_at};
 
+/// The track whose headers have the disk's id.
+pub(crate) const DIRECTORY_TRACK: u8 = 18;
+
 /// The id of a disk, as its headers have it: bytes 5 and 4.
 pub(crate) type Id = (u8, u8);
 
@@ -49,7 +52,7 @@ pub(crate) fn disk_id(track: &Track<'_>) -> Option<Id>
 {
     for index in 0..count_starts(track) {
         let start = start_at(track, index);
-        if names(&start, 18, 0) && is_good(&start) {
+        if names(&start, DIRECTORY_TRACK, 0) && is_good(&start) {
             let high = value_or_zero(value_at(&start, 5));
             return Some((high, value_or_zero(value_at(&start, 4))));
         }

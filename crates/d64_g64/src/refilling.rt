@@ -8,14 +8,14 @@ ghost use Rattle.d64_g64.specs.DumpOf.{dump_of, dump_of_g64};
 use crate::dump::read_g64;
 use crate::fault::G64Fault;
 use crate::file::{begins_as_g64, is_g64};
-use d64_survey::{Dump, DumpFault};
+use d64_survey::{Dump, DumpFault, image_bytes};
 use std::alloc::Global;
 
 /// Whether a D64 can have this many bytes.
 pub(crate) fn is_d64_length(length: usize) -> bool
     ensures { result ≡ is_some (image_bytes length) }
 {
-    matches!(length, 174_848 | 175_531 | 196_608 | 197_376)
+    image_bytes(length).is_some()
 }
 
 /// Whether a file is a dump, by its bytes: a D64 of one of the four lengths, or a G64.

@@ -4,7 +4,6 @@ pub mod FileConditions
 pub mod NumberLists
 pub mod KeptContents
 pub mod ReadContents
-pub mod RecordBytes
 pub mod ListingTests
 pub mod FileTests
 pub mod RowFacts

@@ -1,10 +1,10 @@
 -- The row of a used slot and its file.
-use Rattle.std.specs.Prelude.{ℕ, Bool, if◌then◌else◌, List, map, filter, drop, count_by, length, slice_index, nat_eq, Option, Some, None, option_map}
+use Rattle.std.specs.Prelude.{ℕ, Bool, if◌then◌else◌, List, map, filter, drop, count_by, length, nat_eq, Option, Some, None, option_map}
 use Rattle.std.specs.List.{list_any}
 use Rattle.std.specs.Option.{option_and_then}
 use Rattle.d64_image.specs.Disk.{Disk, Bytes}
 use Rattle.d64_files.specs.Directory.{numbered_slots}
-use Rattle.d64_files.specs.Slot.{type_byte, has_kind, kind_of, is_used, is_closed, is_locked, size_of, first_pair, field_of}
+use Rattle.d64_files.specs.Slot.{type_byte, has_kind, kind_of, is_used, is_closed, is_locked, size_of, first_pair, field_of, record_length}
 use Rattle.d64_files.specs.declared.kind.Kind.{Kind}
 use Rattle.d64_files.specs.declared.kind.Kind.TheVariants.{Rel}
 use Rattle.d64_survey.specs.Dump.{DumpView}
@@ -47,7 +47,7 @@ known_kind cell = if has_kind cell then Some (kind_of cell) else None
 
 -- the length of a record of a slot of this kind: the byte $17 if the kind is REL, else None
 abbrev pub record_length_by : Kind → Bytes → Option ℕ
-record_length_by Rel cell = Some (slice_index cell 0x17)
+record_length_by Rel cell = Some (record_length cell)
 record_length_by kind cell = None
 
 -- how many blocks the way of a part of a slot's file has; None if there is no such part

@@ -14,16 +14,10 @@ use crate::content_table::ContentTable;
 use crate::file_blocks::FileBlocks;
 use crate::row::{Content, FileRow};
 use d64_files::{Entry, Kind, SLOTS_PER_BLOCK, SlotNo};
-use d64_image::{BLOCK_BYTES, BlockSet};
+use d64_image::BlockSet;
 use d64_map::free_set;
-use d64_survey::{Inspection, Part, ReadError, Survey, wholeness};
+use d64_survey::{Inspection, Part, ReadError, wholeness};
 use std::marker::Model;
-
-/// How many bytes a slot has.
-const SLOT_BYTES: usize = BLOCK_BYTES / SLOTS_PER_BLOCK;
-
-/// The place of the length of a REL file's records in a slot.
-const RECORD_LENGTH: usize = 0x17;
 
 /// The inventory of a dump: a row for each file in its directory. It keeps the digests of contents,
 /// so that each way is digested once, and allocates nothing.
@@ -62,8 +56,8 @@ fn known_kind(entry: &Entry) -> Option<Kind>
     }
 }
 
-/// The field of the name.
-fn field_of(entry: &Entry) -> [u8; 16]
+/// The field of the name in a slot: 16 bytes, of which the first shifted space ($A0) ends the name.
+pub fn field_of(entry: &Entry) -> [u8; 16]
     ensures { result ≡ field_of entry.now.bytes }
 {
     let mut field = [0; 16];
@@ -72,17 +66,11 @@ fn field_of(entry: &Entry) -> [u8; 16]
 }
 
 /// The length of a record of the file of a slot, as the slot has it, or None if its kind isn't REL.
-fn record_length(survey: &Survey, entry: &Entry) -> Option<u8>
-    requires { slot_cell survey.now entry.now.slot ≡ Some entry.now.bytes }
+fn record_length(entry: &Entry) -> Option<u8>
     ensures { result ≡ record_length_by (kind_of entry.now.bytes) entry.now.bytes }
 {
     match entry.kind() {
-        Kind::Rel => {
-            let place = entry.slot().place();
-            let block = survey.directory()[place / SLOTS_PER_BLOCK];
-            let start = SLOT_BYTES * (place % SLOTS_PER_BLOCK);
-            Some(survey.image().sector(block)[start + RECORD_LENGTH])
-        }
+        Kind::Rel => Some(entry.record_length()),
         Kind::Del | Kind::Seq | Kind::Prg | Kind::Usr => None,
     }
 }
@@ -172,7 +160,7 @@ impl<'a> Inventory<'a> {
             locked: entry.locked(),
             size: entry.blocks(),
             first: entry.first_pair(),
-            record: record_length(survey, entry),
+            record: record_length(entry),
             blocks: all.way_length(entry, Part::Data),
             side: all.way_length(entry, Part::Side),
             content: self.contents.content(all.image(), entry),

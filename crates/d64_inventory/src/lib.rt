@@ -10,7 +10,7 @@ mod listing_amiss;
 mod row;
 mod rows;
 
-pub use inventory::Inventory;
+pub use inventory::{Inventory, field_of};
 pub use listing_amiss::is_amiss;
 pub use row::{Content, FileRow};
 pub use rows::Rows;

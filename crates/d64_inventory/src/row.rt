@@ -17,8 +17,7 @@ pub struct Content {
 pub struct FileRow {
     /// The number of the slot, from 0 along the directory's way.
     pub slot: usize,
-    /// The field of the name: the name, and then shifted spaces ($A0) if it is shorter than 16
-    /// bytes.
+    /// The field of the name: 16 bytes, of which the first shifted space ($A0) ends the name.
     pub field: [u8; 16],
     /// None if the low four bits of the type byte are above 4.
     pub kind: Option<Kind>,

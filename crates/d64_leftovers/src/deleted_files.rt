@@ -1,14 +1,13 @@
 //! The deleted files of a dump.
 ghost use Rattle.std.specs.Prelude.{◌≡◌, ◌++◌, Some, count_by, option_map};
 ghost use Rattle.std.specs.List.{find};
-ghost use Rattle.d64_files.specs.Slot.{field_of};
 ghost use Rattle.d64_survey.specs.Owners.{is_owned};
 ghost use Rattle.d64_leftovers.specs.Deleted.{unreadable_count, deleted_row};
 
 use crate::deleted_row::DeletedRow;
 use d64_files::{BlockList, Entry};
 use d64_image::BlockNo;
-use d64_inventory::Inventory;
+use d64_inventory::{Inventory, field_of};
 use d64_scratched::ScratchedSlots;
 use d64_survey::{Inspection, Survey, code_of, is_read_error, walk};
 use std::marker::Model;
@@ -32,15 +31,6 @@ impl<'a> Model for DeletedFiles<'a> {
     ghost view = { λ files. files.inspection.now };
 
     ghost invariant = { λ files. files.slots ≡ files.inspection.now.image };
-}
-
-/// Returns the field of an entry's name.
-pub(crate) fn field_of(entry: &Entry) -> [u8; 16]
-    ensures { result ≡ field_of entry.now.bytes }
-{
-    let mut field = [0; 16];
-    field.copy_from_slice(entry.field());
-    field
 }
 
 /// Returns how many of the blocks have a read error.

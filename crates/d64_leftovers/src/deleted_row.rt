@@ -11,7 +11,7 @@ use std::marker::Model;
 pub struct DeletedRow {
     /// The number of the slot, from 0 along the directory's way.
     pub slot: usize,
-    /// The field of the name: the name, then a shifted space ($A0) if it is shorter than 16 bytes.
+    /// The field of the name: 16 bytes, of which the first shifted space ($A0) ends the name.
     pub field: [u8; 16],
     /// The size that the slot still shows, in blocks.
     pub size: u16,

@@ -28,7 +28,7 @@ pub struct OrphanRow {
     pub old: Option<OldSlot>,
     /// How many blocks it has.
     pub blocks: usize,
-    /// The content along it, which is there.
+    /// The content along it; never None.
     pub content: Option<Content>,
     /// How many of its blocks have a read error.
     pub read_errors: usize,

@@ -10,12 +10,12 @@ ghost use Rattle.d64_files.specs.Slot.{EntryView};
 ghost use Rattle.d64_survey.specs.Way.{way};
 ghost use Rattle.d64_leftovers.specs.Orphans.{is_among_left, is_head, is_orphan_way, is_named_by, left_blocks, old_slot, old_slot_of, orphan_row};
 
-use crate::deleted_files::{field_of, unreadable_count};
+use crate::deleted_files::unreadable_count;
 use crate::left_blocks::{blocks_linked, left_blocks, on_directory_track, set_of};
 use crate::orphan_row::{OldSlot, OrphanRow};
 use d64_files::{BlockList, Entry, Slots, data_of};
 use d64_image::{BlockNo, BlockSet, Image};
-use d64_inventory::Inventory;
+use d64_inventory::{Inventory, field_of};
 use d64_map::DIRECTORY_TRACK;
 use d64_survey::{Inspection, walk};
 use std::marker::Model;
@@ -29,9 +29,9 @@ pub(crate) struct Orphans<'a> {
     /// The blocks that have no owner, and to which no slot leads.
     left: BlockList,
     among_left: BlockSet,
-    /// The blocks to which these link.
+    /// The blocks to which those of `left` link.
     linked: BlockSet,
-    /// Those of them that are on the track of directories.
+    /// Those of `left` on track 18, in which an earlier directory may have been.
     old_directory: BlockList,
 }
 
@@ -83,7 +83,7 @@ fn old_slot_of(entry: &Entry) -> OldSlot
     }
 }
 
-/// Whether a slot of an old directory names a head.
+/// Whether a slot of an old directory names a head, the first block of an orphan.
 fn is_named_by(head: BlockNo, entry: &Entry) -> bool
     ensures { result ≡ is_named_by entry.now.image head entry.now.bytes }
 {
@@ -185,11 +185,7 @@ impl<'a> Orphans<'a> {
     fn are_left(&self, blocks: &[BlockNo]) -> bool
         ensures { result ≡ list_all (is_among_left self.now.image) blocks.now }
     {
-        let mut are_left = true;
-        for block in blocks {
-            are_left = are_left && self.among_left.has(*block);
-        }
-        are_left
+        blocks.iter().all(|block| self.among_left.has(*block))
     }
 
     /// The first slot of an old directory that names a head.

@@ -13,7 +13,7 @@ pub enum ListedRow {
     File(FileRow),
     /// The row of the deleted file of a scratched slot.
     Deleted(DeletedRow),
-    /// Of a chain of blocks that no slot leads to.
+    /// The row of a chain of blocks that no slot leads to.
     Orphan(OrphanRow),
 }
 

@@ -7,6 +7,6 @@ pub struct Selection {
     pub files: bool,
     /// Whether those of the deleted files of scratched slots are wanted.
     pub deleted: bool,
-    /// Those of orphans: chains of blocks that no slot leads to.
+    /// Whether those of orphans are wanted: chains of blocks that no slot leads to.
     pub orphans: bool,
 }

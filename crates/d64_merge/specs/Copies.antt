@@ -11,7 +11,7 @@ use Rattle.d64_survey.specs.ReadErrors.{code_of}
 abbrev pub has_block : ℕ → DumpView → Bool
 has_block block dump = nat_lt block (length dump.image)
 
--- the read code of its copy; None if the dump has no codes or hasn't the block
+-- the read code of its copy; None if the dump has no codes or doesn't have the block
 abbrev pub known_code : ℕ → DumpView → Option ℕ
 known_code block dump = slice_get (code_bytes dump.codes) block
 

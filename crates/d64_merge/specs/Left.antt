@@ -1,4 +1,5 @@
--- The tracks of G64 files that the merged dump hasn't, and on which there are blocks that it lacks.
+-- The tracks of G64 files that the merged dump doesn't have, and on which there are blocks that it
+-- lacks.
 use Rattle.std.specs.Prelude.{ℕ, ◌/◌, ◌%◌, ◌==◌, ◌&&◌, not, nat_lt, Bool, true, List, filter}
 use Rattle.std.specs.List.{list_any, range_with_len, slice_get}
 use Rattle.std.specs.Option.{option_map_or}
@@ -14,7 +15,7 @@ use Rattle.d64_merge.specs.declared.outcome.BlockOutcome.TheVariants.{Lost}
 abbrev pub is_whole_track : ℕ → ℕ → Bool
 is_whole_track tracks entry = (entry % 2 == 0) && nat_lt (entry / 2) tracks
 
--- a block was lost, or the merged dump hasn't it
+-- a block was lost, or the merged dump doesn't have it
 abbrev pub is_block_lost : List Choice → ℕ → Bool
 is_block_lost list block = option_map_or (λ (choice : Choice). is_outcome Lost choice.outcome) (slice_get list block) true
 

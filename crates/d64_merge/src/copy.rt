@@ -12,8 +12,8 @@ pub fn has_block(dump: &Dump, block: BlockNo) -> bool
     dump.image().holds(block)
 }
 
-/// Returns the read code of a dump's copy of a block, or None if the dump has no codes or hasn't
-/// the block.
+/// Returns the read code of a dump's copy of a block, or None if the dump has no codes or doesn't
+/// have the block.
 pub fn known_code(dump: &Dump, block: BlockNo) -> Option<u8>
     ensures { result ≡ known_code block dump.now }
 {

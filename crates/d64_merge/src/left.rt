@@ -1,5 +1,5 @@
-//! The tracks of G64 files that the merged dump hasn't, and on which there are blocks that it
-//! lacks.
+//! The tracks of G64 files that the merged dump doesn't have, and on which there are blocks that
+//! it lacks.
 ghost use Rattle.std.specs.Prelude.{◌≡◌, ◌∷◌, ◌++◌, [], if◌then◌else◌, map, IfOk, OnOk};
 ghost use Rattle.d64_merge.specs.Left.{is_whole_track, is_missing, holds_missing, is_entry_left, left};
 
@@ -20,8 +20,8 @@ fn is_whole_track(tracks: u8, entry: u8) -> bool
     entry % 2 == 0 && entry / 2 < tracks
 }
 
-/// Whether a block was lost, or the merged dump hasn't it, by its track and sector. A pair that no
-/// disk has is missing, too.
+/// Whether a block was lost, or the merged dump doesn't have it, by its track and sector. A pair
+/// that no disk has is missing, too.
 fn is_missing(list: &[Choice], track: u8, sector: u8) -> bool
     ensures { result ≡ is_missing list.now (track, sector) }
 {
@@ -35,7 +35,7 @@ fn is_missing(list: &[Choice], track: u8, sector: u8) -> bool
 }
 
 /// Whether an entry of a file holds, with its data, a block that was lost or that the merged dump
-/// hasn't.
+/// doesn't have.
 fn holds_missing(
     alloc: Global,
     list: &[Choice],
@@ -84,8 +84,8 @@ fn push_if(entries: &mut Vec<u8>, entry: u8, is_added: bool) -> Result<(), Alloc
 }
 
 /// Lists the entries of G64 files that are not whole tracks of the merged dump and hold a block
-/// that was lost or that the dump hasn't. The numbers count from 0, ascending: 0 is track 1, 1 is
-/// track 1.5. A file that is no G64 has no entries.
+/// that was lost or that the dump doesn't have. The numbers count from 0, ascending: 0 is track 1,
+/// 1 is track 1.5. A file that is no G64 has no entries.
 #[tactic(auto, unfolding(crate::specs::Left::left))]
 pub fn list_left(
     alloc: Global,

@@ -83,7 +83,7 @@ pub fn count_of(outcome: BlockOutcome, list: &[Choice]) -> usize
         .count()
 }
 
-/// Returns the bytes of a block of an image, or no bytes if the image hasn't the block.
+/// Returns the bytes of a block of an image, or no bytes if the image doesn't have it.
 fn sector_in(image: &Image, block: BlockNo) -> &[u8]
     ensures { result.now ≡ sector_at image.now block }
 {

@@ -15,7 +15,7 @@ pub enum Loss {
     Marked,
     /// Its way is a whole chain, but not as long as the size in the slot.
     Size,
-    /// A block of its way is in that of a scratched slot of a lower number, whose file is younger.
+    /// A block of its way is also in the way of a scratched slot with a lower number.
     Claimed,
     /// A block of its way couldn't be read well.
     Unreadable,
@@ -37,9 +37,5 @@ impl Loss {
 pub fn is_lost(losses: &[Loss]) -> bool
     ensures { result ≡ is_lost losses.now }
 {
-    let mut is_lost = false;
-    for loss in losses {
-        is_lost = is_lost || loss.is_fatal();
-    }
-    is_lost
+    losses.iter().any(|loss| loss.is_fatal())
 }

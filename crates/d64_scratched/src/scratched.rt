@@ -2,7 +2,6 @@
 ghost use Rattle.std.specs.Prelude.{◌≡◌, ◌<◌, ◌≤◌, ◌+◌, ◌*◌, ◌++◌, length, option_map};
 ghost use Rattle.std.specs.List.{list_any};
 ghost use Rattle.d64_image.specs.declared.block.TheConstants.{BLOCKS};
-ghost use Rattle.d64_survey.specs.Flaws.{any_unreadable};
 ghost use Rattle.d64_survey.specs.Owners.{is_owned, is_unowned};
 ghost use Rattle.d64_scratched.specs.Scratched.{is_scratched, is_claimed_below, is_scratched_missized, where_lost, losses_by, losses};
 
@@ -12,7 +11,7 @@ use arrayvec::ArrayVec;
 use d64_files::{BlockList, Entry};
 use d64_image::{BLOCKS, BlockNo, BlockSet};
 use d64_map::free_set;
-use d64_survey::{Survey, WayEnd, code_of, is_read_error, walk};
+use d64_survey::{Survey, WayEnd, any_unreadable, walk};
 use std::marker::Model;
 
 /// How many reasons there are.
@@ -74,17 +73,6 @@ fn is_missized(entry: &Entry, end: WayEnd, way: &[BlockNo]) -> bool
     end.is_whole() && way.len() != usize::from(entry.blocks())
 }
 
-/// Whether one of the blocks has a read error.
-fn any_unreadable(codes: Option<&[u8]>, blocks: &[BlockNo]) -> bool
-    ensures { result ≡ any_unreadable (option_map (λ codes. codes.now) codes.entry) blocks.now }
-{
-    let mut is_unreadable = false;
-    for block in blocks {
-        is_unreadable = is_unreadable || is_read_error(code_of(codes, *block));
-    }
-    is_unreadable
-}
-
 impl<'s, 'a> ScratchedSlots<'s, 'a> {
     /// Collects what is needed of the image of a survey. It walks the way of each scratched slot
     /// once.
@@ -138,11 +126,7 @@ impl<'s, 'a> ScratchedSlots<'s, 'a> {
     fn any_reused(&self, blocks: &[BlockNo]) -> bool
         ensures { result ≡ list_any (is_owned self.now) blocks.now }
     {
-        let mut is_reused = false;
-        for block in blocks {
-            is_reused = is_reused || self.survey.is_owned(*block);
-        }
-        is_reused
+        blocks.iter().any(|block| self.survey.is_owned(*block))
     }
 
     /// Whether a block has no owner, and isn't marked free.
@@ -156,11 +140,7 @@ impl<'s, 'a> ScratchedSlots<'s, 'a> {
     fn any_marked(&self, blocks: &[BlockNo]) -> bool
         ensures { result ≡ list_any (is_unowned self.now) blocks.now }
     {
-        let mut is_marked = false;
-        for block in blocks {
-            is_marked = is_marked || self.is_marked(*block);
-        }
-        is_marked
+        blocks.iter().any(|block| self.is_marked(*block))
     }
 
     /// Whether a block is in the way of a scratched slot with a lower number.
@@ -178,10 +158,6 @@ impl<'s, 'a> ScratchedSlots<'s, 'a> {
     fn any_claimed(&self, blocks: &[BlockNo], slot: usize) -> bool
         ensures { result ≡ list_any (is_claimed_below self.now slot) blocks.now }
     {
-        let mut is_claimed = false;
-        for block in blocks {
-            is_claimed = is_claimed || self.is_claimed(*block, slot);
-        }
-        is_claimed
+        blocks.iter().any(|block| self.is_claimed(*block, slot))
     }
 }

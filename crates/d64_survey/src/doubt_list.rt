@@ -68,7 +68,8 @@ fn is_for_geos(image: &Image) -> bool
     image.sector(map_block())[0xAD..].starts_with(b"GEOS format")
 }
 
-/// Whether there is a block that is marked used and has no owner, on a disk that isn't one of GEOS.
+/// Whether a block of tracks 1 to 35 is marked used and has no owner, on a disk that isn't one of
+/// GEOS.
 fn has_strays(survey: &Survey) -> bool
     ensures { result ≡ has_strays survey.now }
 {

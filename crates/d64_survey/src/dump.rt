@@ -62,7 +62,7 @@ impl From<ImageFault> for DumpFault {
 }
 
 /// How many bytes the image has in a dump of `len` bytes, or None if no dump has as many.
-fn image_bytes(len: usize) -> Option<usize>
+pub fn image_bytes(len: usize) -> Option<usize>
     ensures image { result ≡ image_bytes_in len }
     ensures size { IfSome result (λ count. is_image_length count ≡ true) }
     ensures within { IfSome result (λ count. count ≤ len) }

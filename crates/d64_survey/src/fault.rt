@@ -23,7 +23,7 @@ pub enum Fault {
     WrongCount(u8, u8, u8),
     /// The directory's way has this last block, or no block, and doesn't end as a chain.
     BrokenDirectory(LastBlock, WayEnd),
-    /// The low four bits of this slot's type byte are not the number of a kind.
+    /// This slot has this type byte, whose low four bits are the number of no kind.
     UnknownKind(SlotNo, u8),
     /// The way of this part of this slot's file has this last block, or no block, and doesn't end
     /// as a chain.

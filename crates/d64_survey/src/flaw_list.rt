@@ -10,14 +10,11 @@ use crate::owner::{data_pair, side_pair};
 use crate::survey::Survey;
 use crate::way_table::WayTable;
 use arrayvec::ArrayVec;
-use d64_files::{Entry, block_in};
+use d64_files::{Entry, Kind, block_in};
 use d64_image::Image;
 
 /// How many flaws there are.
 pub const FLAWS: usize = 7;
-
-/// The low four bits of the type byte of a file of the kind USR.
-const USR_NUMBER: u8 = 3;
 
 /// What the ways of a file show.
 #[derive(Drop)]
@@ -28,7 +25,7 @@ struct Sight {
     is_unreadable: bool,
 }
 
-/// Whether an entry marks a deleted file.
+/// Whether the type byte of an entry has the number of DEL.
 fn is_del(entry: &Entry) -> bool
     ensures { result ≡ is_del_entry entry.now.bytes }
 {
@@ -39,7 +36,7 @@ fn is_del(entry: &Entry) -> bool
 fn is_geos(image: &Image, entry: &Entry) -> bool
     ensures { result ≡ is_geos image.now entry.now.bytes }
 {
-    if entry.type_byte() % 16 != USR_NUMBER {
+    if !matches!(entry.kind(), Kind::Usr) {
         return false;
     }
     if entry.geos_type() == 0 {

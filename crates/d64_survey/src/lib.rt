@@ -1,5 +1,9 @@
 //! The survey of a D64 image or a dump: who owns each block, which faults, read errors and doubts
 //! there are, and which files are whole. Any image has one: noise is surveyed like a sound disk.
+//!
+//! A way is the list of blocks along the sector links from a track and a sector: up to a block whose
+//! link has track 0 (then it is a whole chain), to a pair that the image doesn't have, or to a block
+//! that is in it already.
 #![tactic(auto)]
 
 mod doubt;
@@ -28,14 +32,14 @@ mod way_table;
 
 pub use doubt::Doubt;
 pub use doubt_list::{DOUBTS, directory_block, is_blank};
-pub use dump::{Dump, DumpFault, drive_status, is_read_error};
+pub use dump::{Dump, DumpFault, drive_status, image_bytes, is_read_error};
 pub use fault::{Fault, LastBlock};
 pub use flaw::Flaw;
 pub use flaw_list::{FLAWS, wholeness};
 pub use inspection::Inspection;
 pub use owner::{Owner, Part, data_pair, pair_of, side_pair};
 pub use owner_list::{Owners, SHOWN_OWNERS};
-pub use read_error::{ReadError, code_of};
+pub use read_error::{ReadError, any_unreadable, code_of};
 pub use survey::Survey;
 pub use walking::walk;
 pub use way_end::WayEnd;

@@ -1,5 +1,6 @@
 //! The read errors of a dump.
 ghost use Rattle.std.specs.Prelude.{◌≡◌, OnOk, option_map};
+ghost use Rattle.d64_survey.specs.Flaws.{any_unreadable};
 ghost use Rattle.d64_survey.specs.ReadErrors.{code_of, read_errors};
 
 use crate::dump::{Dump, is_read_error};
@@ -27,6 +28,15 @@ pub fn code_of(codes: Option<&[u8]>, block: BlockNo) -> u8
         },
         None => 0,
     }
+}
+
+/// Whether one of the blocks has a read error.
+pub fn any_unreadable(codes: Option<&[u8]>, blocks: &[BlockNo]) -> bool
+    ensures { result ≡ any_unreadable (option_map (λ codes. codes.now) codes.entry) blocks.now }
+{
+    blocks
+        .iter()
+        .any(|block| is_read_error(code_of(codes, *block)))
 }
 
 impl Dump {

@@ -2,13 +2,12 @@
 ghost use Rattle.std.specs.Prelude.{◌≡◌, ℕ, Option, None, option_map};
 ghost use Rattle.d64_survey.specs.Way.{block_at};
 ghost use Rattle.d64_survey.specs.Faults.{last_of};
-ghost use Rattle.d64_survey.specs.Flaws.{any_shared, any_unreadable};
+ghost use Rattle.d64_survey.specs.Flaws.{any_shared};
 ghost use Rattle.d64_survey.specs.WayFacts.{way_facts, noted_way, RecordsWays};
 
-use crate::dump::is_read_error;
 use crate::fault::LastBlock;
 use crate::owner::{data_pair, side_pair};
-use crate::read_error::code_of;
+use crate::read_error::any_unreadable;
 use crate::survey::Survey;
 use crate::walking::walk;
 use crate::way_end::WayEnd;
@@ -49,22 +48,7 @@ pub(crate) fn last_of(blocks: &[BlockNo]) -> LastBlock
 fn any_shared(survey: &Survey, blocks: &[BlockNo]) -> bool
     ensures { result ≡ any_shared survey.now blocks.now }
 {
-    let mut is_shared = false;
-    for block in blocks {
-        is_shared = is_shared || survey.is_shared(*block);
-    }
-    is_shared
-}
-
-/// Whether one of the blocks has a read error.
-fn any_unreadable(codes: Option<&[u8]>, blocks: &[BlockNo]) -> bool
-    ensures { result ≡ any_unreadable (option_map (λ codes. codes.now) codes.entry) blocks.now }
-{
-    let mut is_unreadable = false;
-    for block in blocks {
-        is_unreadable = is_unreadable || is_read_error(code_of(codes, *block));
-    }
-    is_unreadable
+    blocks.iter().any(|block| survey.is_shared(*block))
 }
 
 /// Walks the way from a track and a sector, and returns what it shows.
