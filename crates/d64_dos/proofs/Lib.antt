@@ -8,6 +8,7 @@ pub mod SameWords
 pub mod Restored
 pub mod Steps
 pub mod FormattedListings
+pub mod BlockRuns
 pub mod BlockSets
 pub mod ClearedSlots
 pub mod ScratchedFiles

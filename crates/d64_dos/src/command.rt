@@ -119,8 +119,8 @@ pub enum Reply {
 /// - A deletion `Directory`, as a write.
 /// - An undeletion `WrongType` and `Directory`, as a write; `NotFound`, if no scratched slot has
 ///   the name; `Exists`, if a used slot has it; `Lost`, if each scratched slot of the name has lost
-///   its file: its way is no chain, or hasn't as many blocks as the slot shows, or a block of it is
-///   owned or marked as used.
+///   its file: its way is no chain, or doesn't have as many blocks as the slot shows, or a block of
+///   it is owned or marked as used.
 /// - A renaming `Directory`, as a write; `NotFound`, if no used slot has the old name; `Exists`, if
 ///   a used slot has the new name, also if that is the old one.
 /// - A validation `Directory` with the first condition that fails of those on the directory, the

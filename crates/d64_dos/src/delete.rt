@@ -53,14 +53,9 @@ fn free_all(free: &mut BlockSet, given: &BlockSet)
     ensures { (blocks : List ℕ) → given.now ≡ set.from_list blocks → free.new ≡ with_freed free.old blocks }
 {
     given.known_members();
-    for index in 0..BLOCKS {
-        match BlockNo::at(index) {
-            Some(block) => {
-                if given.has(block) {
-                    free.add(block);
-                }
-            }
-            None => {}
+    for block in BlockNo::all() {
+        if given.has(block) {
+            free.add(block);
         }
     }
 }

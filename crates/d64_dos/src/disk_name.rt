@@ -1,5 +1,5 @@
 //! Giving the disk another name, and another id.
-ghost use Rattle.std.specs.Prelude.{◌≡◌, OnOk};
+ghost use Rattle.std.specs.Prelude.{◌≡◌, OnOk, OnErr};
 ghost use Rattle.d64_image.specs.Patch.{StillRestores};
 ghost use Rattle.d64_files.specs.Name.{filled_field};
 ghost use Rattle.d64_effects.specs.DiskName.{labelled, named_disk};
@@ -37,8 +37,8 @@ fn labelled(old: &[u8; BLOCK_BYTES], name: &Name, id: Option<[u8; 2]>) -> [u8; B
 }
 
 /// Gives the disk another name, and another id, if one is given. No other byte changes, and the
-/// image needn't be sound. An error comes if there is no memory to keep the map's block; then the
-/// image is unchanged.
+/// image needn't be sound. An error comes if there is no memory to keep the map's block; then image
+/// and patch are unchanged.
 #[tactic(auto, unfolding(d64_effects::specs::DiskName::named_disk))]
 pub(crate) fn name_disk(
     image: &mut Image,
@@ -47,6 +47,7 @@ pub(crate) fn name_disk(
     id: Option<[u8; 2]>,
 ) -> Result<(), AllocError>
     ensures named { OnOk result (image.new ≡ named_disk image.old name.now id) }
+    ensures unchanged { OnErr result ((image.new ≡ image.old) × (patch.new ≡ patch.old)) }
     ensures back { StillRestores image.old patch.old image.new patch.new }
 {
     image.known_image();

@@ -3,15 +3,15 @@ ghost use Rattle.std.specs.Prelude.{◌≡◌, ◌<◌, length, replicate, OnOk}
 ghost use Rattle.d64_image.specs.declared.image.TheConstants.{BLOCK_BYTES};
 ghost use Rattle.d64_image.specs.Image.{with_sector};
 ghost use Rattle.d64_image.specs.Patch.{StillRestores};
-ghost use Rattle.d64_effects.specs.Format.{directory_start, header, free_when_formatted, blank_disk, formatted_disk};
+ghost use Rattle.d64_effects.specs.Format.{header, free_when_formatted, blank_disk, formatted_disk};
 
-use crate::block_count::block_count;
 use d64_files::{
     DIRECTORY_SECTOR, DOS_VERSION_START, FILLER, ID_START, NAME_START, Name, empty_directory,
     write_at,
 };
 use d64_image::{BLOCK_BYTES, BlockNo, BlockSet, Image, Patch};
 use d64_map::{DIRECTORY_TRACK, map_block, put_map};
+use d64_survey::directory_block;
 use std::alloc::AllocError;
 
 /// The beginning of the map's block: the link to the directory's first block, and the mark of the
@@ -19,17 +19,10 @@ use std::alloc::AllocError;
 const LINK_AND_FORMAT: [u8; 4] = [DIRECTORY_TRACK, DIRECTORY_SECTOR, 0x41, 0x00];
 
 /// The DOS version and the format, as a directory shows them: `2A`.
-const DOS_VERSION: [u8; 2] = [0x32, 0x41];
+const DOS_VERSION: [u8; 2] = *b"2A";
 
 /// How many bytes the disk's label has, from its name on: the name, the id and the DOS version.
 const LABEL_BYTES: usize = 27;
-
-/// The directory's first block.
-fn directory_start() -> BlockNo
-    ensures { result ≡ directory_start }
-{
-    BlockNo::of(DIRECTORY_TRACK, DIRECTORY_SECTOR).unwrap()
-}
 
 /// The map's block of a formatted disk, in which the map is still to be written.
 fn header(name: &Name, id: &[u8; 2]) -> [u8; BLOCK_BYTES]
@@ -50,14 +43,11 @@ fn free_when_formatted(image: &Image) -> BlockSet
     ensures { result ≡ free_when_formatted (length image.now) }
 {
     let mut free = BlockSet::empty();
-    for index in 0..block_count(image) {
-        match BlockNo::at(index) {
-            Some(block) => free.add(block),
-            None => {}
-        }
+    for block in image.blocks() {
+        free.add(block);
     }
     free.remove(map_block());
-    free.remove(directory_start());
+    free.remove(directory_block());
     free
 }
 
@@ -80,11 +70,8 @@ fn blank(image: &mut Image, patch: &mut Patch) -> Result<(), AllocError>
     ensures blank { OnOk result (image.new ≡ blank_disk (length image.old)) }
     ensures back { StillRestores image.old patch.old image.new patch.new }
 {
-    for index in 0..block_count(image) {
-        match BlockNo::at(index) {
-            Some(block) => blank_block(image, patch, block)?,
-            None => {}
-        }
+    for block in image.blocks() {
+        blank_block(image, patch, block)?;
     }
     Ok(())
 }
@@ -105,6 +92,6 @@ pub(crate) fn format(
     let free = free_when_formatted(image);
     blank(image, patch)?;
     patch.write(image, map_block(), &header(name, id))?;
-    patch.write(image, directory_start(), &empty_directory())?;
+    patch.write(image, directory_block(), &empty_directory())?;
     put_map(image, patch, &free)
 }

@@ -5,7 +5,6 @@
 //! meaning that the 1541 User's Guide gives them.
 #![tactic(auto)]
 
-mod block_count;
 mod command;
 mod delete;
 mod directory;

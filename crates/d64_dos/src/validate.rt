@@ -6,13 +6,12 @@ ghost use Rattle.d64_effects.specs.Validate.{unclosed_slots, all_but, validated_
 ghost use Rattle.d64_dos.specs.FileRefusals.{validate_refusal};
 ghost use Rattle.d64_dos.specs.Refusal.{refused_by};
 
-use crate::block_count::block_count;
 use crate::delete::{MOST_SLOTS, clear_slots};
 use crate::refusal::Refusal;
 use arrayvec::ArrayVec;
 use d64_effects::laws::clearing_keeps_the_directory;
 use d64_files::{Directory, owned};
-use d64_image::{BlockNo, BlockSet, Image, Patch};
+use d64_image::{BlockSet, Image, Patch};
 use d64_map::put_map;
 
 /// The places of the used slots whose files aren't closed, in the directory's order.
@@ -33,14 +32,9 @@ fn all_but(image: &Image, owned: &BlockSet) -> BlockSet
     ensures { (blocks : List ℕ) → owned.now ≡ set.from_list blocks → result ≡ all_but (length image.now) blocks }
 {
     let mut others = BlockSet::empty();
-    for index in 0..block_count(image) {
-        match BlockNo::at(index) {
-            Some(block) => {
-                if !owned.has(block) {
-                    others.add(block);
-                }
-            }
-            None => {}
+    for block in image.blocks() {
+        if !owned.has(block) {
+            others.add(block);
         }
     }
     others

@@ -12,7 +12,7 @@ use d64_image::{BLOCK_BYTES, BlockNo, Image, PatchList};
 use std::alloc::{AllocError, Global};
 
 /// The bytes at the beginning of each session file: D64S.
-pub(crate) const MAGIC: [u8; 4] = [0x44, 0x36, 0x34, 0x53];
+pub(crate) const MAGIC: [u8; 4] = *b"D64S";
 
 /// How many bytes a file has besides its image and its records: its beginning, the number of tracks
 /// and two counts.

@@ -119,10 +119,7 @@ fn started(
 {
     match parts {
         Some(parts) => Ok((parts, rest)),
-        None => {
-            let (parts, after) = read_start(alloc, rest)?;
-            Ok((parts, after))
-        }
+        None => read_start(alloc, rest),
     }
 }
 

@@ -15,8 +15,8 @@ returns-clause-formatted c =
     let labelled = c.in_ok-write.ensures.written in
     let begun = c.in_ok-write-2.ensures.written in
     on_ok_weaker c.put_map.result
-    (λ mapped. formatted_from_parts (length c.args.image.now) c.args.name.now c.args.id.now c.blank.new.image c.put_map.new.image c.map_block.result c.directory_start.result c.header.result
-    c.empty_directory.result c.free_when_formatted-free.result blank c.map_block.ensures c.header.ensures c.directory_start.ensures
+    (λ mapped. formatted_from_parts (length c.args.image.now) c.args.name.now c.args.id.now c.blank.new.image c.put_map.new.image c.map_block.result c.directory_block.result c.header.result
+    c.empty_directory.result c.free_when_formatted-free.result blank c.map_block.ensures c.header.ensures c.directory_block.ensures
     c.empty_directory.ensures c.free_when_formatted-free.ensures (let e = mapped in cc))
     c.put_map.ensures.written
 
@@ -37,7 +37,7 @@ write-requires-2 c =
     let least = size_least (length c.args.image.now) c.known_image.ensures.size in
     let long = long_blank c.args.image.now c.blank.new.image c.in_ok-blank.ensures.blank in
     let same = ap length c.in_ok-write.ensures.written ∙ length-set c.blank.new.image _ _ in
-    let e = c.directory_start.ensures in
+    let e = c.directory_block.ensures in
     omega arith
 
 pub put_map-requires : goal.put_map-requires

@@ -1,27 +1,31 @@
-use Rattle.std.proofs.Common.{◌≡◌, length, ap, ◌∙◌, arith}
-use Rattle.d64_image.proofs.Sizes.{size_most}
+use Rattle.std.proofs.Common.{◌≡◌, ℕ, ◌++◌, List, length, sym, ap, ◌∙◌}
+use Rattle.std.specs.List.{range_with_len}
+use Rattle.std.specs.FinSet as set
+use Rattle.std.specs.Ordering.{nat_cmp}
 use Rattle.d64_map.specs.Map.{all_of}
 use Rattle.d64_effects.specs.Format.{free_when_formatted}
 use Rattle.d64_effects.proofs.EmptyDisks.{from_range_more}
+use Rattle.d64_dos.proofs.BlockRuns.{next_place, taken_more, split_more, all_taken}
 use Rattle.d64_dos.proofs.format.free_when_formatted.Goals as goal
-use Rattle.d64_dos.proofs.format.free_when_formatted.Goals.{in-Some, in-None}
 
-pub loop-index-preserved : goal.loop-index-preserved
-loop-index-preserved c =
-    elim c.match-at.branch [
-      | in-Some w ↦ w.free-is ∙ from_range_more c.loop-index.index w.in-Some.block c.loop-index.free w.add.new.self c.loop-index.invariant w.in-Some.ensures.1 w.add.ensures.value
-      | in-None w ↦
-          let most = size_most (length c.args.image.now) c.block_count-index-end.ensures.size in
-          let long = c.block_count-index-end.ensures.count in
-          let test = c.loop-index-test.true in
-          absurd (w.in-None.ensures (omega arith))
-    ]
+pub loop-block-preserved : goal.loop-block-preserved
+loop-block-preserved c =
+    let invariant = c.loop-block.invariant in
+    let done = c.loop-block.yielded in
+    let block = c.in-Some.block in
+    let split = invariant.split ∙ ap (λ (left : List ℕ). done ++ left) c.in-Some.ensures.steps in
+    let here = next_place (length c.args.image.now) done c.next.new.self block split in
+    record {
+      split = split_more (range_with_len 0 (length c.args.image.now)) done c.next.new.self block split;
+      free = from_range_more (length done) block c.loop-block.free c.add.new.self invariant.free here c.add.ensures.value
+          ∙ ap (λ (n : ℕ). set.from_list {R = nat_cmp} (range_with_len 0 n)) (sym (taken_more done block));
+    }
 
 pub returns : goal.returns
 unfolding free_when_formatted
 returns c =
-    let long = c.block_count-index-end.ensures.count in
-    let most = size_most (length c.args.image.now) c.block_count-index-end.ensures.size in
-    let end : c.loop-index.index ≡ length c.args.image.now = omega arith in
-    let e : c.loop-index.free ≡ all_of (length c.args.image.now) = c.loop-index.invariant ∙ ap all_of end in
-    let f = c.remove.ensures.value in let g = c.remove-2.ensures.value in let h = c.map_block.ensures in let d = c.directory_start.ensures in cc
+    let count = length c.args.image.now in
+    let invariant = c.loop-block.invariant in
+    let all = all_taken count c.loop-block.yielded c.loop-block.block-iterator invariant.split c.in-None.ensures.steps.0 in
+    let e : c.loop-block.free ≡ all_of count = invariant.free ∙ ap all_of all in
+    let f = c.remove.ensures.value in let g = c.remove-2.ensures.value in let h = c.map_block.ensures in let d = c.directory_block.ensures in cc

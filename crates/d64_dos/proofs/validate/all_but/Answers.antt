@@ -1,40 +1,52 @@
-use Rattle.std.proofs.Common.{◌≡◌, ◌+◌, true, false, length, sym, ap, ◌∙◌, subst, arith}
+use Rattle.std.proofs.Common.{◌≡◌, ℕ, ◌+◌, ◌++◌, List, true, false, length, sym, ap, ◌∙◌, subst}
+use Rattle.std.specs.List.{range_with_len}
 use Rattle.std.specs.Ordering.{nat_cmp}
 use Rattle.std.specs.FinSet as set
-use Rattle.d64_image.proofs.Sizes.{size_most}
+use Rattle.d64_dos.proofs.BlockRuns.{next_place, taken_more, split_more, all_taken}
 use Rattle.d64_dos.proofs.BlockSets.{OthersBelow, no_others, one_other, no_other, all_others}
 use Rattle.d64_dos.proofs.validate.all_but.Goals as goal
-use Rattle.d64_dos.proofs.validate.all_but.Goals.{in-Some+then-not-has, in-Some+else-not-has, in-None}
 
-pub loop-index-init : goal.loop-index-init
-loop-index-init c =
-    subst (λ (others : set.FinSet nat_cmp). OthersBelow c.args.owned.now others 0) (sym c.empty-others.ensures.value) (no_others c.args.owned.now)
+pub loop-block-init : goal.loop-block-init
+loop-block-init c = record {
+  split = sym (c.into_iter-block-iterator.ensures.into_iter_gives ∙ c.blocks-block-items.ensures.value);
+  others = subst (λ (others : set.FinSet nat_cmp). OthersBelow c.args.owned.now others 0) (sym c.empty-others.ensures.value) (no_others c.args.owned.now);
+}
 
-pub loop-index-preserved : goal.loop-index-preserved
-loop-index-preserved c =
+pub loop-block-preserved-then-not-has : goal.loop-block-preserved-then-not-has
+loop-block-preserved-then-not-has c =
     let owned = c.args.owned.now in
-    let next = c.loop-index.index + 1 in
-    elim c.match-at.branch [
-      | in-Some+then-not-has w ↦
-          let here = w.in-Some.ensures.1 in
-          let absent : set.contains owned c.loop-index.index ≡ false = ap (set.contains owned) (sym here) ∙ sym w.has.ensures.value ∙ w.if-not-has.true in
-          let more : c.match-at.others ≡ set.insert c.loop-index.others c.loop-index.index =
-          w.others-is ∙ w.add.ensures.value ∙ ap (set.insert c.loop-index.others) here in
-          subst (λ (others : set.FinSet nat_cmp). OthersBelow owned others next) (sym more)
-          (one_other owned c.loop-index.others c.loop-index.index c.loop-index.invariant absent)
-      | in-Some+else-not-has w ↦
-          let here = w.in-Some.ensures.1 in
-          let member : set.contains owned c.loop-index.index ≡ true = ap (set.contains owned) (sym here) ∙ sym w.has.ensures.value ∙ w.if-not-has.false in
-          subst (λ (others : set.FinSet nat_cmp). OthersBelow owned others next) (sym w.others-is)
-          (no_other owned c.loop-index.others c.loop-index.index c.loop-index.invariant member)
-      | in-None w ↦
-          let most = size_most (length c.args.image.now) c.block_count-index-end.ensures.size in
-          let long = c.block_count-index-end.ensures.count in
-          let test = c.loop-index-test.true in
-          absurd (w.in-None.ensures (omega arith))
-    ]
+    let before = c.loop-block.others in
+    let done = c.loop-block.yielded in
+    let block = c.in-Some.block in
+    let split = c.loop-block.invariant.split ∙ ap (λ (left : List ℕ). done ++ left) c.in-Some.ensures.steps in
+    let here = next_place (length c.args.image.now) done c.next.new.self block split in
+    let absent : set.contains owned (length done) ≡ false = ap (set.contains owned) (sym here) ∙ sym c.has.ensures.value ∙ c.if-not-has.true in
+    let more : c.add.new.self ≡ set.insert before (length done) = c.add.ensures.value ∙ ap (set.insert before) here in
+    record {
+      split = split_more (range_with_len 0 (length c.args.image.now)) done c.next.new.self block split;
+      others = subst (λ (n : ℕ). OthersBelow owned c.add.new.self n) (sym (taken_more done block))
+          (subst (λ (others : set.FinSet nat_cmp). OthersBelow owned others (length done + 1)) (sym more)
+          (one_other owned before (length done) c.loop-block.invariant.others absent));
+    }
+
+pub loop-block-preserved : goal.loop-block-preserved
+loop-block-preserved c =
+    let owned = c.args.owned.now in
+    let before = c.loop-block.others in
+    let done = c.loop-block.yielded in
+    let block = c.in-Some.block in
+    let split = c.loop-block.invariant.split ∙ ap (λ (left : List ℕ). done ++ left) c.in-Some.ensures.steps in
+    let here = next_place (length c.args.image.now) done c.next.new.self block split in
+    let member : set.contains owned (length done) ≡ true = ap (set.contains owned) (sym here) ∙ sym c.has.ensures.value ∙ c.if-not-has.false in
+    record {
+      split = split_more (range_with_len 0 (length c.args.image.now)) done c.next.new.self block split;
+      others = subst (λ (n : ℕ). OthersBelow owned before n) (sym (taken_more done block))
+          (no_other owned before (length done) c.loop-block.invariant.others member);
+    }
 
 pub returns : goal.returns
 returns c =
-    let long = c.block_count-index-end.ensures.count in
-    λ blocks listed. all_others c.args.owned.now c.loop-index.others c.loop-index.index (length c.args.image.now) blocks (omega arith) listed c.loop-index.invariant
+    let count = length c.args.image.now in
+    let invariant = c.loop-block.invariant in
+    let all = all_taken count c.loop-block.yielded c.loop-block.block-iterator invariant.split c.in-None.ensures.steps.0 in
+    λ blocks listed. all_others c.args.owned.now c.loop-block.others (length c.loop-block.yielded) count blocks all listed invariant.others
