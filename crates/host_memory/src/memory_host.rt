@@ -69,14 +69,13 @@ impl MemoryHost {
     pub fn fail_at(&mut self, k: u64)
         ensures countdown { self.new ≡ record self.old { countdown = k } }
 
-        // After any number of fetches and stores, the next one is to fail exactly if it is the
-        // k-th.
+        // After any number of counted calls, the next one is to fail exactly if it is the k-th.
         ensures exactly { (calls : ℕ) → (countdown_after calls self.new.countdown ≡ 1) ↔ (calls + 1 ≡ k) }
     {
         self.countdown = k;
     }
 
-    /// Counts a fetch or a store. Returns whether it is the one to fail.
+    /// Counts a call that does more than look. Returns whether it is the one to fail.
     fn count_call(&mut self) -> bool
         ensures fails { IsTrue result ↔ (self.old.countdown ≡ 1) }
         ensures counted { self.new ≡ after_call self.old }

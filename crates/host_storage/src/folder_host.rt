@@ -21,8 +21,9 @@ use std::os::unix::fs::FileTypeExt;
 use std::path::Path;
 use std::rt::Files;
 
-/// How many bytes each read of a file asks for. An image takes eleven reads.
-const READ_BYTES: usize = 16_384;
+/// How many bytes each read of a file asks for. An image of 35 tracks takes twelve reads, of which
+/// the last finds the end.
+const FILE_READ_BYTES: usize = 16_384;
 
 /// The files of the system, by their paths from the current folder.
 /// It exposes no files to proofs, since others write to them too. A store replaces an existing file
@@ -33,7 +34,7 @@ pub struct FolderHost<R> {
     rt: R,
     /// The buffer for reads, from the first read on. It is kept, so that it is cleared once and not
     /// for each file.
-    buffer: Option<Box<[u8; READ_BYTES]>>,
+    buffer: Option<Box<[u8; FILE_READ_BYTES]>>,
     writes: Writes,
     /// What is open as the standard streams, from the first store on.
     streams: Option<StandardStreams>,
@@ -196,7 +197,7 @@ fn count_refusal(failures: &mut u64, outcome: &Result<(), FolderFault>)
 fn read_file<R: Files>(
     rt: &R,
     path: &str,
-    buffer: &mut Option<Box<[u8; READ_BYTES]>>,
+    buffer: &mut Option<Box<[u8; FILE_READ_BYTES]>>,
     limit: usize,
     bytes: &mut Vec<u8>,
 ) -> Result<(), HostFault>
@@ -204,7 +205,7 @@ fn read_file<R: Files>(
 {
     let mut file = open_file(rt, path)?;
     if buffer.is_none() {
-        match Box::new(*bytes.allocator(), [0; READ_BYTES]) {
+        match Box::new(*bytes.allocator(), [0; FILE_READ_BYTES]) {
             Ok(cleared) => *buffer = Some(cleared),
             Err(failed) => return Err(HostFault::Memory(AllocError::from(failed))),
         }

@@ -67,6 +67,7 @@ impl<'w, W: Write> OutputStream<'w, W> {
         ensures same { self.new.writer.ghost_name ≡ self.old.writer.ghost_name }
         ensures kept { Keeps (W.contents self.old.writer.now) (W.contents self.new.writer.now) }
         ensures delivered { OnOk result (self.new.is_delivered ≡ true) }
+        ensures undelivered { OnErr result (self.new.is_delivered ≡ self.old.is_delivered) }
         ensures failed { FailsWith result self.old.has_failed self.new.has_failed }
     {
         match self.writer.flush() {

@@ -37,7 +37,7 @@ struct End {
 
 /// What a store does with the file that it has opened.
 #[derive(Clone, Copy, PartialEq, Eq)]
-enum Way {
+enum StoreMethod {
     /// It writes to it as it is.
     InPlace,
     /// It puts a new file in its place.
@@ -141,10 +141,10 @@ where
     if is_file && !writes.limit.holds(rt, bytes.len() as u64) {
         return Err(HostFault::Device);
     }
-    let outcome = match way_of(is_file, end.is_link(), end.has(&opened)) {
-        Way::InPlace => write_in_place(old, is_file, bytes),
-        Way::Replaced => replace_file(rt, alloc, old, end, bytes),
-        Way::Again => return Ok(false),
+    let outcome = match method_of(is_file, end.is_link(), end.has(&opened)) {
+        StoreMethod::InPlace => write_in_place(old, is_file, bytes),
+        StoreMethod::Replaced => replace_file(rt, alloc, old, end, bytes),
+        StoreMethod::Again => return Ok(false),
     };
     match outcome {
         Ok(()) => Ok(true),
@@ -172,16 +172,16 @@ impl End {
 
 /// What a store does with what it has opened, by whether it is a plain file, whether a link of the
 /// system's own leads to it, and whether it is still at the end of the links.
-fn way_of(is_file: bool, is_by_system_link: bool, is_found: bool) -> Way
-    ensures in_place { (result ≡ Way.InPlace) ↔ (is_file ≡ false ⊎ is_by_system_link ≡ true) }
-    ensures replaced { (result ≡ Way.Replaced) ↔ (is_file ≡ true × is_by_system_link ≡ false × is_found ≡ true) }
+fn method_of(is_file: bool, is_by_system_link: bool, is_found: bool) -> StoreMethod
+    ensures in_place { (result ≡ StoreMethod.InPlace) ↔ (is_file ≡ false ⊎ is_by_system_link ≡ true) }
+    ensures replaced { (result ≡ StoreMethod.Replaced) ↔ (is_file ≡ true × is_by_system_link ≡ false × is_found ≡ true) }
 {
     if !is_file || is_by_system_link {
-        Way::InPlace
+        StoreMethod::InPlace
     } else if is_found {
-        Way::Replaced
+        StoreMethod::Replaced
     } else {
-        Way::Again
+        StoreMethod::Again
     }
 }
 

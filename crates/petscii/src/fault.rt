@@ -11,7 +11,6 @@ use thiserror::Error;
 pub enum TextFault {
     /// The part between the `{` at this place and the next `}` is neither the name of a control
     /// code nor a value.
-    /// code nor a value.
     #[error("at offset {place}: unknown name in braces; write a control code, as {{clr}}, or a byte's value, as {{$93}}")]
     UnknownName { place: usize },
     /// No `}` follows the `{` at this place.
