@@ -2,7 +2,7 @@
 use Rattle.std.proofs.Common.{◌≡◌, ℕ, ◌<◌, ◌≤◌, ◌^◌, Bool, true, false, cond, List, [], ◌∷◌, length, drop, Some, None, Result, Ok, Err, refl, sym, ◌∙◌, ap, subst, arith, rules}
 use Rattle.std.proofs.lemmas.List.Sums.{prefix_len-le-length, take_while-cons, AllPass-from_list_all}
 use Rattle.std.proofs.lemmas.Bool.{ltb-true, ltb-false}
-use Rattle.std.specs.Prelude.{position, unwrap_or, nat_lt, not}
+use Rattle.std.specs.Prelude.{nat_lt, not}
 use Rattle.std.specs.List.{position_or_len, before_first, list_all}
 use Rattle.std.specs.Char.{is_ascii_digit}
 use Rattle.std.specs.Result.{result_ok, OkIff}
@@ -13,14 +13,6 @@ use Rattle.std.proofs.lemmas.List.Elements.{All-weaker}
 use Rattle.std.proofs.lemmas.Str.Ascii.{IsAscii-from_all}
 use Rattle.std.proofs.lemmas.Str.Parse.{IsNumeralModel, numerals_by_value, parse_digits}
 use Rattle.cbm_text.specs.TextLine.{is_no_digit, unspaced_line, number_digits, fitting_number, without_space, rest_of}
-
--- the first place, or the length
-pub place_or_length : (test : ℕ → Bool) (text : List ℕ) → unwrap_or (position test text) (length text) ≡ position_or_len test text
-place_or_length test text = of_test (nat_lt (position_or_len test text) (length text)) refl
-  where
-    of_test : (b : Bool) → nat_lt (position_or_len test text) (length text) ≡ b → unwrap_or (cond b (Some (position_or_len test text)) None) (length text) ≡ position_or_len test text
-    of_test true at = refl
-    of_test false at = let past : length text ≤ position_or_len test text = ltb-false _ _ at in omega (arith, prefix_len-le-length (λ x. not (test x)) text)
 
 -- ---- digits
 

@@ -320,7 +320,7 @@ fn token_cause(alloc: Global, text: &[u8]) -> Result<Cause, AllocError>
     one_outcome(text);
     match from_text(alloc, text) {
         Ok(bytes) => Ok(left_cause(&bytes)),
-        Err(fault) => match want_of_memory(fault) {
+        Err(fault) => match memory_error(fault) {
             Some(error) => Err(error),
             None => Ok(Cause::TokenByte),
         },
@@ -328,7 +328,7 @@ fn token_cause(alloc: Global, text: &[u8]) -> Result<Cause, AllocError>
 }
 
 /// The error of a fault that says that memory is out.
-fn want_of_memory(fault: TextFault) -> Option<AllocError>
+fn memory_error(fault: TextFault) -> Option<AllocError>
     ensures { result ≡ None → IsTextOutOfMemory fault → ⊥ }
 {
     match fault {

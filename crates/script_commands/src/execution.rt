@@ -20,8 +20,8 @@ use script_text::raw_lines;
 use script_text::words::{MAX_WORDS, Words, as_text};
 use std::alloc::Global;
 
-/// The most arguments that a command takes, counting itself, except for `delete`. A list for these
-/// takes less time to make than one for all that a line may have.
+/// How many parts a line has at most, its command and its arguments, unless the command is `delete`.
+/// A list for these takes less time to make than one for all that a line may have.
 const FEW_WORDS: usize = 4;
 
 /// Runs a line that was read to its end. Returns the response, or None if the line is skipped: an

@@ -240,10 +240,8 @@ fn show_program(alloc: Global, session: &Session, pattern: &Pattern) -> Result<R
     ensures { RespondsAlone (show_program session.now pattern.now) session.now result session.now }
 {
     let file = d64_dos::read(alloc, session.image(), pattern)?;
-    match cbm_text::list(alloc, file.bytes.as_slice()) {
-        Ok(text) => Ok(Response::text(text)),
-        Err(fault) => Err(Status::from(fault)),
-    }
+    let text = cbm_text::list(alloc, file.bytes.as_slice())?;
+    Ok(Response::text(text))
 }
 
 /// `quit`: ends the run.

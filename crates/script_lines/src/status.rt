@@ -45,7 +45,7 @@ pub enum Status {
     FileTypeMismatch,
     /// 66: the disk has no such block.
     IllegalBlock { track: u8, sector: u8 },
-    /// 71: the directory or the block map fails this condition of a sound disk.
+    /// 71: the disk fails this condition of a sound disk.
     DirectoryError(DirFault),
     /// 72: the disk or its directory is full.
     DiskFull,

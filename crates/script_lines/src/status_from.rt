@@ -1,4 +1,9 @@
 //! The status of each fault, refusal and reply.
+ghost use Rattle.std.specs.Prelude.{◌≡◌};
+ghost use Rattle.script_lines.specs.Act.{status_of_fault};
+ghost use Rattle.script_lines.specs.Arguments.{status_of_text};
+ghost use Rattle.script_lines.specs.BasicFiles.{status_of_basic, status_of_listing};
+ghost use Rattle.script_lines.specs.Line.{status_of_refusal, status_of_reply};
 
 use crate::status::Status;
 use cbm_text::{BasicFault, ListFault};
@@ -7,9 +12,6 @@ use host_storage::HostFault;
 use petscii::TextFault;
 
 impl From<HostFault> for Status {
-    ghost use Rattle.std.specs.Prelude.{◌≡◌};
-    ghost use Rattle.script_lines.specs.Act.{status_of_fault};
-
     ghost from_gives = { λ fault status. status ≡ status_of_fault fault };
 
     fn from(fault: HostFault) -> Status {
@@ -21,9 +23,6 @@ impl From<HostFault> for Status {
 }
 
 impl From<TextFault> for Status {
-    ghost use Rattle.std.specs.Prelude.{◌≡◌};
-    ghost use Rattle.script_lines.specs.Arguments.{status_of_text};
-
     ghost from_gives = { λ fault status. status ≡ status_of_text fault };
 
     fn from(fault: TextFault) -> Status {
@@ -37,9 +36,6 @@ impl From<TextFault> for Status {
 }
 
 impl From<BasicFault> for Status {
-    ghost use Rattle.std.specs.Prelude.{◌≡◌};
-    ghost use Rattle.script_lines.specs.BasicFiles.{status_of_basic};
-
     ghost from_gives = { λ fault status. status ≡ status_of_basic fault };
 
     fn from(fault: BasicFault) -> Status {
@@ -51,9 +47,6 @@ impl From<BasicFault> for Status {
 }
 
 impl From<ListFault> for Status {
-    ghost use Rattle.std.specs.Prelude.{◌≡◌};
-    ghost use Rattle.script_lines.specs.BasicFiles.{status_of_listing};
-
     ghost from_gives = { λ fault status. status ≡ status_of_listing fault };
 
     fn from(fault: ListFault) -> Status {
@@ -65,9 +58,6 @@ impl From<ListFault> for Status {
 }
 
 impl From<Refusal> for Status {
-    ghost use Rattle.std.specs.Prelude.{◌≡◌};
-    ghost use Rattle.script_lines.specs.Line.{status_of_refusal};
-
     ghost from_gives = { λ refusal status. status ≡ status_of_refusal refusal };
 
     fn from(refusal: Refusal) -> Status {
@@ -85,9 +75,6 @@ impl From<Refusal> for Status {
 }
 
 impl From<Reply> for Status {
-    ghost use Rattle.std.specs.Prelude.{◌≡◌};
-    ghost use Rattle.script_lines.specs.Line.{status_of_reply};
-
     ghost from_gives = { λ reply status. status ≡ status_of_reply reply };
 
     fn from(reply: Reply) -> Status {
