@@ -15,10 +15,14 @@ abbrev pub is_option : Text → Bool
 is_option [] = false
 is_option (first ∷ rest) = first == 45
 
--- the first of these arguments is there, and no option
+-- an argument may be an image: it looks like a path, and is no option
+abbrev pub may_be_image : Text → Bool
+may_be_image argument = is_path_like argument && not (is_option argument)
+
+-- the first of these arguments is there, and may be a command: it is no option and no path
 abbrev pub begin_with_line : List Text → Bool
 begin_with_line [] = false
-begin_with_line (first ∷ rest) = not (is_option first)
+begin_with_line (first ∷ rest) = not (is_option first) && not (is_path_like first)
 
 -- an image, and the arguments after it
 abbrev pub MeantParts : Type 0
@@ -34,5 +38,5 @@ image_first arguments = None
 
 -- a line after the image, which follows the names of the program and of the subcommand
 abbrev pub line_after_image : List Text → Option MeantParts
-line_after_image (program ∷ (name ∷ (image ∷ rest))) = if not (is_option image) && begin_with_line rest then Some (image, rest) else None
+line_after_image (program ∷ (name ∷ (image ∷ rest))) = if may_be_image image && begin_with_line rest then Some (image, rest) else None
 line_after_image arguments = None
