@@ -67,12 +67,12 @@ unfoldable pub wrongs : DumpView → List ℕ
 wrongs dump = element (codes "ul") [] (fault_items dump.image (faults dump.image) ++ error_items dump.image (read_errors dump)) ++ codes "\n"
 
 -- the picture of the blocks, if it is wanted
-abbrev pub picture_where : Bool → Bytes → DumpView → List ℕ
-picture_where maps name dump = if maps then page_svg_of name dump else []
+abbrev pub picture_if : Bool → Bytes → DumpView → List ℕ
+picture_if maps name dump = if maps then page_svg_of name dump else []
 
 -- the whole content of the section, with links to host files in this folder, if there is one
 unfoldable pub section_content : Bool → Option (List ℕ) → Bytes → DumpView → List ℕ
-section_content maps folder name dump = codes "\n" ++ (summary name dump ++ (wrongs dump ++ (table folder dump ++ picture_where maps name dump)))
+section_content maps folder name dump = codes "\n" ++ (summary name dump ++ (wrongs dump ++ (table folder dump ++ picture_if maps name dump)))
 
 -- the attributes that say whether anything is wrong, and how its sign looks: a warning if the disk
 -- is otherwise sound

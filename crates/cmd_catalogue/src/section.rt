@@ -2,7 +2,7 @@
 ghost use Rattle.std.specs.Prelude.{◌≡◌, [], ◌++◌, codes, option_map, OnOk};
 ghost use Rattle.std.specs.List.{flat_map};
 ghost use Rattle.cmd_catalogue.specs.Elements.{text_line};
-ghost use Rattle.cmd_catalogue.specs.Sections.{disk_name_line, id_line, host_line, contents_line, state_line, label_lines, summary, fault_item, error_item, fault_items, error_items, wrongs, picture_where, section_content, amiss_class, section, failed_section};
+ghost use Rattle.cmd_catalogue.specs.Sections.{disk_name_line, id_line, host_line, contents_line, state_line, label_lines, summary, fault_item, error_item, fault_items, error_items, wrongs, picture_if, section_content, amiss_class, section, failed_section};
 
 use crate::element::push_text_line;
 use crate::files::push_table;
@@ -197,13 +197,13 @@ fn push_wrongs(out: &mut Vec<u8>, all: &Inspection, text: &mut Vec<u8>) -> Resul
 }
 
 /// Appends the picture of the blocks, if it is wanted.
-fn push_picture_where(
+fn push_wanted_picture(
     out: &mut Vec<u8>,
     maps: bool,
     name: &[u8],
     all: &Inspection,
 ) -> Result<(), AllocError>
-    ensures { OnOk result (out.new.items ≡ out.old.items ++ picture_where maps name.now all.now) }
+    ensures { OnOk result (out.new.items ≡ out.old.items ++ picture_if maps name.now all.now) }
 {
     if maps {
         page_svg(name, all, out)
@@ -229,7 +229,7 @@ fn push_content(
     push_summary(out, name, all, text)?;
     push_wrongs(out, all, text)?;
     push_table(out, all, folder, files, text)?;
-    push_picture_where(out, maps, name, all)
+    push_wanted_picture(out, maps, name, all)
 }
 
 /// Returns the attributes that say whether anything is wrong, and how its sign looks.

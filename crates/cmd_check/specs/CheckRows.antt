@@ -11,13 +11,13 @@ columns =
     ∷ codes "amiss" ∷ codes "faults" ∷ codes "read_errors" ∷ []
 
 -- a field, if there is one
-abbrev pub field_where : Option (List ℕ) → List (List ℕ)
-field_where field = option_map_or (λ text. text ∷ []) field []
+abbrev pub field_if : Option (List ℕ) → List (List ℕ)
+field_if field = option_map_or (λ text. text ∷ []) field []
 
 -- a row on a line of its own: what comes before the digest, the digest if there is a column for it,
 -- the doubts, and the error
 abbrev pub csv_row_of : List (List ℕ) → Option (List ℕ) → List ℕ → List ℕ → List ℕ
-csv_row_of fields digest doubts error = row_text default_writer (fields ++ (field_where digest ++ doubts ∷ error ∷ []))
+csv_row_of fields digest doubts error = row_text default_writer (fields ++ (field_if digest ++ doubts ∷ error ∷ []))
 
 -- a text in the column of the digest, if there is one
 abbrev pub in_digest : Bool → List ℕ → Option (List ℕ)

@@ -1,7 +1,7 @@
 //! What is printed of a dump as CSV.
 ghost use Rattle.std.specs.Prelude.{◌≡◌, [], ◌++◌, option_map, OnOk, IfOk};
 ghost use Rattle.hex.specs.Hex.{encode_lower};
-ghost use Rattle.cmd_check.specs.CheckRows.{field_where};
+ghost use Rattle.cmd_check.specs.CheckRows.{field_if};
 ghost use Rattle.cmd_check.specs.Checks.{dump_fields, label_fields, count_fields, state_fields, check_fields, check_row};
 
 use crate::doubt::push_doubts;
@@ -78,7 +78,7 @@ fn push_digest(
     row: &mut CsvRow,
     digest: Option<&[u8; 32]>,
 ) -> Result<(), AllocError>
-    ensures { OnOk result (row.new ≡ row.old ++ field_where (option_map encode_lower (option_map (λ d. d.now) digest.entry))) }
+    ensures { OnOk result (row.new ≡ row.old ++ field_if (option_map encode_lower (option_map (λ d. d.now) digest.entry))) }
 {
     match digest {
         Some(digest) => row.push_hexadecimal(scratch, digest),

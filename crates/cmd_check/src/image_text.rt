@@ -50,7 +50,8 @@ fn push_fault_line(out: &mut Vec<u8>, survey: &Survey, fault: &Fault) -> Result<
     out.extend_from_slice(LINE_END)
 }
 
-/// Appends the line of a fault, with `place` faults of its number before it, unless these are ten.
+/// Appends the line of a fault, with `place` faults of its number before it, unless there are ten
+/// or more.
 fn push_first_line(
     out: &mut Vec<u8>,
     survey: &Survey,

@@ -1,6 +1,6 @@
 //! Rows of CSV: the header, and the rows of files that cannot be read or have a wrong length.
 ghost use Rattle.std.specs.Prelude.{◌≡◌, [], ◌∷◌, ◌++◌, codes, OnOk, IfOk};
-ghost use Rattle.cmd_check.specs.CheckRows.{in_digest, field_where, header_row, failed_row};
+ghost use Rattle.cmd_check.specs.CheckRows.{in_digest, field_if, header_row, failed_row};
 ghost use Rattle.out_json_csv.specs.FailedDumps.{no_dump_error};
 
 use out_json_csv::{CsvRow, Scratch, UNREAD, end_row, no_dump_error};
@@ -29,7 +29,7 @@ const EMPTY: [&[u8]; 13] = [b""; 13];
 
 /// Appends a text in the column of the digest to a row, if there is such a column.
 fn push_in_digest(row: &mut CsvRow, has_digest: bool, text: &[u8]) -> Result<(), AllocError>
-    ensures { OnOk result (row.new ≡ row.old ++ field_where (in_digest has_digest text.now)) }
+    ensures { OnOk result (row.new ≡ row.old ++ field_if (in_digest has_digest text.now)) }
 {
     if has_digest {
         return row.push_field(text);

@@ -7,8 +7,8 @@ use crate::calls::have_folder;
 use host_storage::Host;
 use std::alloc::AllocError;
 
-/// Makes folders unless they exist, each in the one before it, and the first one at this place.
-/// Returns the path of the first that cannot be made, or None if all exist then.
+/// Makes folders unless they exist, each in the one before it. `start` is the path before the first
+/// one, with its slash. Returns the path of the first that cannot be made, or None if all exist then.
 pub(crate) fn have_folders<H: Host>(
     host: &mut H,
     start: String,

@@ -7,7 +7,7 @@ pub enum Extent {
     /// Its content.
     Content,
     /// What is there of a file that has no content: it was not closed, its chain of blocks is
-    /// broken, or it is a DEL entry.
+    /// broken, it is a DEL entry, or it was deleted and is lost.
     Part,
 }
 

@@ -14,7 +14,7 @@ use std::marker::Model;
 
 /// The most bytes that the files of an image may have together. A sound disk has at most 190,246;
 /// slots that share blocks may have many times as many.
-pub const LIMIT: usize = 16_777_216;
+const EXTRACTED_BYTES: usize = 16_777_216;
 
 /// The extraction of the files of an image, one after another: what is written of each, until they
 /// have too many bytes together.
@@ -34,13 +34,10 @@ impl Model for ContentExtraction {
 
 /// Returns how many bytes later files may have after one with `count` bytes, or None if there are
 /// too many.
-fn less(left: Option<usize>, count: usize) -> Option<usize>
+fn remaining_bytes(left: Option<usize>, count: usize) -> Option<usize>
     ensures { result ≡ remaining_bytes left count }
 {
-    match left {
-        Some(left) => left.checked_sub(count),
-        None => None,
-    }
+    left?.checked_sub(count)
 }
 
 impl ContentExtraction {
@@ -48,7 +45,9 @@ impl ContentExtraction {
     pub fn new() -> ContentExtraction
         ensures { result ≡ Some 16777216 }
     {
-        ContentExtraction { left: Some(LIMIT) }
+        ContentExtraction {
+            left: Some(EXTRACTED_BYTES),
+        }
     }
 
     /// Replaces a list's contents by what is written of the file of the next slot, and returns how
@@ -108,17 +107,10 @@ impl ContentExtraction {
             ≡ portion_within self.old (option_map (λ extent. record { bytes = bytes.now; extent = extent }) found) }
         ensures left { self.new ≡ left_after self.old (option_map (λ extent. record { bytes = bytes.now; extent = extent }) found) }
     {
-        match found {
-            Some(extent) => {
-                self.left = less(self.left, bytes.len());
-                if self.left.is_some() {
-                    Some(extent)
-                } else {
-                    None
-                }
-            }
-            None => None,
-        }
+        let extent = found?;
+        self.left = remaining_bytes(self.left, bytes.len());
+        self.left?;
+        Some(extent)
     }
 
     /// Whether the files had too many bytes, so that one of them was not written, nor any later

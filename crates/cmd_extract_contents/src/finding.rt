@@ -16,7 +16,7 @@ use d64_scratched::is_lost;
 use d64_survey::{data_pair, walk};
 use std::alloc::AllocError;
 
-/// Puts the content along the chain from a track and a sector into an empty list, and returns
+/// Replaces a list's contents by the content along the chain from a track and a sector, and returns
 /// whether there is one: whether the chain is whole.
 fn put_content_from(
     bytes: &mut Vec<u8>,

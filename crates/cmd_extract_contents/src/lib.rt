@@ -14,4 +14,4 @@ mod finding;
 
 pub use ending::ending_by;
 pub use extent::Extent;
-pub use extraction::{ContentExtraction, LIMIT};
+pub use extraction::ContentExtraction;

@@ -13,7 +13,7 @@ pub enum BlankDisk {
 }
 
 impl BlankDisk {
-    /// Returns the blank disk of this many tracks, which are 35 or 40: it has 35 unless they are 40.
+    /// Returns the blank disk of 40 tracks if `tracks` is 40, and else that of 35.
     pub fn of(tracks: u8) -> BlankDisk
         ensures { result ≡ blank_disk_of tracks }
     {

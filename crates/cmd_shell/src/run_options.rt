@@ -14,7 +14,7 @@ pub struct RunOptions<'n> {
     pub refusals: Refusals,
 }
 
-/// Returns the host file of this name: an empty name is that of none.
+/// Returns this name of a host file, or None if it is empty.
 pub fn home_of(name: &str) -> Option<&str>
     ensures { option_copied result ≡ home_of name.now }
 {

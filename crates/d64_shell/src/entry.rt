@@ -29,8 +29,10 @@ use std::io::{Read, Write};
 
 /// Does what the arguments after the program's name ask for, and returns the exit status: 0 if all
 /// lines of the script or a tool's input were accepted, and after help; 1 if a line was refused, or
-/// a tool's input, of which `faults` gets a status line; 2 after a fault, or if the arguments are
-/// wrong, which is reported on `faults`.
+/// a tool's input, of which `faults` gets a status line, or with `-o` lines NAME:LINE; 2 after a
+/// fault, or if the arguments are wrong, which is reported on `faults`. Of `check`, `files`,
+/// `extract`, `map`, `catalogue`, `diff` and `merge` 0 means that nothing is amiss or different,
+/// and 1 that something is.
 ///
 /// `shell` runs the script that `reader` gives on a blank image, of 40 tracks after `--tracks 40`;
 /// `shell IMAGE` runs it on the image that the host has under this name, to which `save` also
@@ -68,8 +70,8 @@ pub fn program<R: Read, W: Write, F: Write, H: Host>(
     program.run(arguments, &mut console, host)
 }
 
-/// The program with memory, and an observer that follows the shell's output if the script is the
-/// input.
+/// The program with its allocator, and an observer, which follows the session of `shell` and gets
+/// the name of a file that no session begins with.
 #[derive(Drop)]
 pub struct ObservedProgram<'l, L: Observer> {
     pub alloc: Global,

@@ -7,7 +7,7 @@ ghost use Rattle.program_console.specs.Console.{IsFresh};
 use d64_shell::{Console, FolderHost, Nobody, ObservedProgram, ProgramFault};
 use host_storage::{Host, InputStream, OutputStream, Retrying, SizeLimit, StandardStream};
 use program_console::{
-    MarkingWriter, ProgressLine, QuietWriter, WatchedHost, WipingWriter, WithinLimit,
+    MarkingWriter, NOT_RUN, ProgressLine, QuietWriter, WatchedHost, WipingWriter, WithinLimit,
     asks_for_program, asks_for_report,
 };
 use script_hints::Advisor;
@@ -16,9 +16,6 @@ use std::cell::Cell;
 use std::env;
 use std::io::{BufWriter, IsTerminal, Read, Write};
 use std::process::ExitCode;
-
-/// The exit status if nothing was done.
-const NOT_RUN: u8 = 2;
 
 /// The line for a program that would be written to a terminal.
 const PROGRAM_AT_TERMINAL: &[u8] =
@@ -127,10 +124,7 @@ fn run_advised<A: Write, K: Host + Drop, R: Read, W: Write, F: Write, H: Host>(
 /// Whether an advisor may have something to explain: to a person at a terminal, or of lines for which
 /// an option asks, as `-c` and `-e` do.
 fn may_explain(rt: &HostRuntime, arguments: &[&str]) -> bool {
-    rt.stderr().is_terminal()
-        || arguments
-            .iter()
-            .any(|argument| argument.as_bytes().first() == Some(&b'-'))
+    rt.stderr().is_terminal() || arguments.iter().any(|argument| argument.starts_with("-"))
 }
 
 /// Runs the program with these arguments on a console and a host, and explains nothing.

@@ -1,4 +1,4 @@
-//! What is printed of a file, also of a deleted one, as CSV.
+//! What is printed of a file, also of a deleted one or of an orphan, as CSV.
 ghost use Rattle.std.specs.Prelude.{◌≡◌, [], ◌∷◌, ◌++◌, codes, decimal, OnOk, IfOk};
 ghost use Rattle.std.specs.Option.{option_map_or};
 ghost use Rattle.out_messages.specs.FileText.{kind_letters};
@@ -250,7 +250,8 @@ pub fn begin_row(scratch: &mut Scratch, name: &[u8], row: &ListedRow) -> Result<
     }
 }
 
-/// Appends whether the file of a row was deleted, if deleted files are wanted, to a row of CSV.
+/// Appends to a row of CSV whether the file of a row was deleted, if deleted files are wanted, and
+/// whether it is an orphan, if those are.
 pub fn push_leftover_fields(
     leftovers: Leftovers,
     line: &mut CsvRow,

@@ -1,4 +1,4 @@
-//! What is printed of a file, also of a deleted one, as JSON.
+//! What is printed of a file, also of a deleted one or of an orphan, as JSON.
 ghost use Rattle.std.specs.Prelude.{◌≡◌, ◌++◌, IfOk};
 ghost use Rattle.out_json_csv.specs.Values.{PrintsMembers, line_of};
 ghost use Rattle.out_files.specs.FileObject.{file_members};

@@ -45,11 +45,7 @@ fn push_broken_lines(out: &mut Vec<u8>, survey: &Survey, list: &[Fault]) -> Resu
 fn is_among(block: BlockNo, blocks: &[BlockNo]) -> bool
     ensures { result ≡ list_any (λ own. nat_eq own block) blocks.now }
 {
-    let mut is_found = false;
-    for own in blocks {
-        is_found = is_found || *own == block;
-    }
-    is_found
+    blocks.iter().any(|own| *own == block)
 }
 
 /// Whether a block is 18/0 or one of the directory's chain.

@@ -1,5 +1,5 @@
 //! A row of CSV, a field at a time.
-ghost use Rattle.std.specs.Prelude.{◌≡◌, [], ◌∷◌, ◌++◌, OnOk, IfOk};
+ghost use Rattle.std.specs.Prelude.{◌≡◌, [], ◌∷◌, ◌++◌, OnOk, OnErr, IfOk};
 ghost use Rattle.csv.specs.Writing.{row_text, default_writer};
 
 use csv::{ByteRecord, Writer};
@@ -43,7 +43,8 @@ impl CsvRow {
 
     /// Appends a field. If it is out of memory, no field is left.
     pub fn push_field(&mut self, field: &[u8]) -> Result<(), AllocError>
-        ensures { OnOk result (self.new ≡ self.old ++ field.now ∷ []) }
+        ensures pushed { OnOk result (self.new ≡ self.old ++ field.now ∷ []) }
+        ensures emptied { OnErr result (self.new ≡ []) }
     {
         let fields = &mut self.fields;
         match fields.push_field(field) {

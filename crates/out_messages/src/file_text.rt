@@ -32,7 +32,7 @@ pub fn locked_text(locked: bool) -> &'static [u8]
     if locked { b", locked" } else { b"" }
 }
 
-/// Returns the letters of a slot's file.
+/// Returns the three letters of the kind of a slot's file, or `???` if its type byte has no kind.
 pub fn letters_of(entry: &Entry) -> &'static [u8]
     ensures { result.now ≡ letters_of entry.now.bytes }
 {
@@ -66,7 +66,7 @@ pub fn blocks_there(image: &Image, entry: &Entry) -> usize
 }
 
 /// Returns the verb after `there` blocks.
-fn is_there(there: usize) -> &'static [u8]
+fn there_text(there: usize) -> &'static [u8]
     ensures { result.now ≡ (if there == 1 then codes " is there" else codes " are there") }
 {
     if there == 1 {
@@ -85,7 +85,7 @@ fn push_size(out: &mut Vec<u8>, shown: usize, there: usize) -> Result<(), AllocE
     push_count(out, shown, b"block")?;
     out.extend_from_slice(b", ")?;
     push_number(out, there)?;
-    out.extend_from_slice(is_there(there))?;
+    out.extend_from_slice(there_text(there))?;
     Ok(())
 }
 

@@ -16,7 +16,7 @@ use crate::cells::{column_x, row_y};
 use crate::legend::push_legend;
 use crate::region::{Region, colour_of_region, first_owner, is_in};
 use crate::shapes::{push_colour, push_mark};
-use crate::svg::{height, push_front, push_page, push_title, push_view_box};
+use crate::svg::{height, push_background, push_front, push_title, push_view_box};
 use d64_files::Entry;
 use d64_image::BlockNo;
 use d64_survey::Inspection;
@@ -240,7 +240,7 @@ fn push_page_content(
 {
     out.extend_from_slice(b"\n")?;
     push_title(out, name, inspection)?;
-    push_page(out, high)?;
+    push_background(out, high)?;
     push_front(out, name, inspection)?;
     push_regions(out, inspection)?;
     push_alerts(out, inspection)?;

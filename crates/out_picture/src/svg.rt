@@ -89,7 +89,7 @@ pub(crate) fn push_title(
 
 /// Appends the attributes of the background.
 #[tactic(auto, unfolding(crate::specs::Svg::page_attributes))]
-fn push_page_attributes(out: &mut Vec<u8>, high: usize) -> Result<(), AllocError>
+fn push_background_attributes(out: &mut Vec<u8>, high: usize) -> Result<(), AllocError>
     ensures { OnOk result (out.new.items ≡ out.old.items ++ page_attributes high) }
 {
     push_attribute(out, b"class", b"page")?;
@@ -99,11 +99,11 @@ fn push_page_attributes(out: &mut Vec<u8>, high: usize) -> Result<(), AllocError
 
 /// Appends the background.
 #[tactic(auto, unfolding(crate::specs::Svg::page, out_markup::specs::Markup::empty_element, out_markup::specs::Markup::tag))]
-pub(crate) fn push_page(out: &mut Vec<u8>, high: usize) -> Result<(), AllocError>
+pub(crate) fn push_background(out: &mut Vec<u8>, high: usize) -> Result<(), AllocError>
     ensures { OnOk result (out.new.items ≡ out.old.items ++ page high) }
 {
     out.extend_from_slice(b"<rect")?;
-    push_page_attributes(out, high)?;
+    push_background_attributes(out, high)?;
     out.extend_from_slice(b"/>\n")
 }
 
@@ -226,7 +226,7 @@ fn push_top(
     out.extend_from_slice(b"\n")?;
     push_title(out, name, inspection)?;
     push_style(out)?;
-    push_page(out, high)
+    push_background(out, high)
 }
 
 /// Appends what is drawn around the cells, before them.

@@ -63,8 +63,8 @@ pub(crate) fn with_arguments<'a>(
     command
 }
 
-/// Returns the command with this argument added. No exit drops a command: each call that can fail
-/// takes it.
+/// Returns the command with this argument added. The command is passed as a `Result`: an exit by `?`
+/// that drops it costs the prover much (docs/GATE.md).
 fn with_argument<'a>(
     alloc: Global,
     command: Result<Command<'a>, AllocError>,

@@ -38,8 +38,8 @@ fn with_subcommand<'a>(
     above(command?, subcommand.command(alloc))
 }
 
-/// Returns the first command with the second as a subcommand, or that memory ran out. It has the
-/// one exit that drops a command.
+/// Returns the first command with the second as a subcommand, or that memory ran out. Its exit is the
+/// only one that drops a command, which costs the prover much (docs/GATE.md).
 fn above<'a>(
     command: Command<'a>,
     below: Result<Command<'a>, AllocError>,

@@ -89,9 +89,9 @@ pub struct Merging {
     pub output: String,
     /// Whether it has no read codes.
     pub plain: bool,
-    /// Whether what more than half of the good copies have is taken where they differ.
+    /// Whether what more than half of the good copies have is taken if they differ.
     pub majority: bool,
-    /// Whether the first good copy is taken where they differ otherwise.
+    /// Whether the first good copy is taken if they differ otherwise.
     pub first: bool,
 }
 

@@ -38,8 +38,9 @@ const ADDRESS_DIGITS: usize = 4;
 /// `--title` of `catalogue` is empty; `Links` if the value of `--links` is empty; `Names` if there
 /// are both FILE and `--files-from`, or neither; `Null` if there is `--null` without
 /// `--files-from`; `Picture` if the value of `--format` of `map` is neither `text` nor `svg`;
-/// `Difference` if the value of `--format` of `diff` is neither `text` nor `json`. `Memory` may
-/// come in place of any result.
+/// `Difference` if the value of `--format` of `diff` or `merge` is neither `text` nor `json`;
+/// `Output` if there is `merge` without `--output`; `Dumps` if there is `merge` without FILE.
+/// `Memory` may come in place of any result.
 pub fn job(alloc: Global, arguments: &[&str]) -> Result<Job, JobFault>
     ensures job { IfOk result (IsJob (map (λ argument. argument.now) arguments.now)) }
     ensures fault { IfErr result (IsFault (map (λ argument. argument.now) arguments.now)) }

@@ -54,8 +54,8 @@ pub(crate) fn extract_job(alloc: Global, arguments: &ArgMatches) -> Result<Job, 
     })
 }
 
-/// Returns which leftovers beside files the arguments ask for: deleted files, if they have
-/// `--deleted`.
+/// Returns which leftovers the arguments ask for: deleted files, if they have `--deleted`, and
+/// orphans, if they have `--orphans`.
 fn leftovers(arguments: &ArgMatches) -> Leftovers
     ensures { IsLeftoversBy (rows_of (found_of arguments.now)) result }
 {
@@ -105,10 +105,7 @@ pub(crate) fn catalogue_job(alloc: Global, arguments: &ArgMatches) -> Result<Job
 fn is_left_empty(arguments: &ArgMatches, id: &str) -> bool
     ensures { result ≡ is_left_empty id.now (rows_of (found_of arguments.now)) }
 {
-    match given(arguments, id) {
-        Some(text) => text.is_empty(),
-        None => false,
-    }
+    matches!(given(arguments, id), Some(""))
 }
 
 /// Returns how a page is to be made, by the arguments.

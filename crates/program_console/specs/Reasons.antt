@@ -9,7 +9,7 @@ use Rattle.host_storage.specs.declared.host.Obstacle.TheVariants as obstacles
 use Rattle.host_storage.specs.declared.host.WriteObstacle.{WriteObstacle}
 use Rattle.host_storage.specs.declared.host.WriteObstacle.TheVariants as write_obstacles
 use Rattle.program_console.specs.declared.reason.Reason.{Reason}
-use Rattle.program_console.specs.declared.reason.Reason.TheVariants.{NoSuchFile, Folder, NoPermission, TooLong, NotUtf8, LongName, NoFolder, NotFolder, FolderThere, NameTooLong, ReadOnly, Full}
+use Rattle.program_console.specs.declared.reason.Reason.TheVariants.{NoSuchFile, Folder, NoPermission, TooLong, NotUtf8, ListedNameTooLong, NoFolder, NotFolder, FolderThere, NameTooLong, ReadOnly, Full}
 
 -- a reason in plain words
 abbrev pub reason_text : Reason → List ℕ
@@ -18,7 +18,7 @@ reason_text Folder = codes "a folder"
 reason_text NoPermission = codes "no permission"
 reason_text TooLong = codes "longer than 16 MiB"
 reason_text NotUtf8 = codes "its name is not UTF-8"
-reason_text LongName = codes "its name has more than 4096 bytes"
+reason_text ListedNameTooLong = codes "its name has more than 4096 bytes"
 reason_text NoFolder = codes "no such folder"
 reason_text NotFolder = codes "not a folder"
 reason_text FolderThere = codes "a folder is there"
@@ -28,7 +28,7 @@ reason_text Full = codes "the disk is full"
 
 -- what can be done, if the reason does not make it plain
 abbrev pub hint_of : Reason → List ℕ
-hint_of Folder = codes "; for the images in it: find FOLDER -name '*.d64' | d64sh check --files-from -"
+hint_of Folder = codes "; check, files, extract and catalogue take the images in it: find FOLDER -name '*.d64' | d64sh check --files-from -"
 hint_of reason = []
 
 -- the reason for an obstacle at a path

@@ -83,7 +83,8 @@ pub struct WatchedHost<'a, R, H> {
 impl<'a, R, H> WatchedHost<'a, R, H> {
     /// Returns a host of which no file was read.
     pub fn new(line: &'a ProgressLine<'a, R>, host: H) -> WatchedHost<'a, R, H>
-        ensures { result.host ≡ host }
+        ensures host { result.host ≡ host }
+        ensures unread { result.done ≡ 0 }
     {
         WatchedHost {
             line,

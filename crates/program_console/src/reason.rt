@@ -19,7 +19,7 @@ pub enum Reason {
     /// Its name is not UTF-8, and no other can be opened.
     NotUtf8,
     /// Its name in a list has more than 4,096 bytes.
-    LongName,
+    ListedNameTooLong,
     /// The folder that it is to be written to does not exist.
     NoFolder,
     /// The path that it is to be written to is not a folder.
@@ -45,7 +45,7 @@ impl Reason {
             Reason::NoPermission => b"no permission",
             Reason::TooLong => b"longer than 16 MiB",
             Reason::NotUtf8 => b"its name is not UTF-8",
-            Reason::LongName => b"its name has more than 4096 bytes",
+            Reason::ListedNameTooLong => b"its name has more than 4096 bytes",
             Reason::NoFolder => b"no such folder",
             Reason::NotFolder => b"not a folder",
             Reason::FolderThere => b"a folder is there",
@@ -61,7 +61,7 @@ impl Reason {
     {
         match self {
             Reason::Folder => {
-                b"; for the images in it: find FOLDER -name '*.d64' | d64sh check --files-from -"
+                b"; check, files, extract and catalogue take the images in it: find FOLDER -name '*.d64' | d64sh check --files-from -"
             }
             _ => b"",
         }
@@ -101,10 +101,7 @@ pub fn reason_of<H: Host>(host: &H, name: &str, fault: HostFault) -> Option<Reas
     match fault {
         HostFault::Missing => Some(Reason::NoSuchFile),
         HostFault::TooLong => Some(Reason::TooLong),
-        HostFault::Device => match host.obstacle(name) {
-            Some(seen) => Some(Reason::from(seen)),
-            None => None,
-        },
+        HostFault::Device => Some(Reason::from(host.obstacle(name)?)),
         HostFault::Memory(_) => None,
     }
 }
@@ -130,14 +127,11 @@ impl From<WriteObstacle> for Reason {
 pub fn reason_unwritten<H: Host>(host: &H, path: &str) -> Option<Reason>
     ensures { IsWriteReason (H.state host.now).files result }
 {
-    match host.write_obstacle(path) {
-        Some(seen) => Some(Reason::from(seen)),
-        None => None,
-    }
+    Some(Reason::from(host.write_obstacle(path)?))
 }
 
 /// Appends a reason, if one is known, and what can be done, in brackets to a line, before its line
-/// feed.
+/// feed. An empty line stays empty.
 pub fn push_known_reason(line: &mut Vec<u8>, reason: Option<Reason>) -> Result<(), AllocError>
     ensures { OnOk result (line.new.items ≡ with_known_reason reason line.old.items) }
 {

@@ -70,16 +70,18 @@ fn named_job(alloc: Global, arguments: &[&str]) -> Result<Job, JobFault>
     ensures job { IfOk result (IsJob (named_arguments (map (λ argument. argument.now) arguments.now))) }
     ensures fault { IfErr result (IsFault (named_arguments (map (λ argument. argument.now) arguments.now))) }
 {
-    let mut all = Vec::new(alloc);
-    match all.push("d64sh") {
-        Ok(()) => {}
-        Err(_) => return Err(JobFault::Memory),
-    }
-    match all.extend_from_slice(arguments) {
-        Ok(()) => {}
-        Err(_) => return Err(JobFault::Memory),
-    }
+    let all = named_arguments(alloc, arguments)?;
     job(alloc, all.as_slice())
+}
+
+/// Returns the program's name and these arguments.
+fn named_arguments<'a>(alloc: Global, arguments: &[&'a str]) -> Result<Vec<&'a str>, AllocError>
+    ensures { IfOk result (λ all. map (λ argument. argument.now) all.items ≡ named_arguments (map (λ argument. argument.now) arguments.now)) }
+{
+    let mut all = Vec::new(alloc);
+    all.push("d64sh")?;
+    all.extend_from_slice(arguments)?;
+    Ok(all)
 }
 
 /// Returns the fault of these arguments, whose text has them as they are shown if it is one of
@@ -153,10 +155,7 @@ fn shown_texts(alloc: Global, arguments: &[&str]) -> Option<Vec<String>>
 {
     let mut all = Vec::new(alloc);
     for argument in arguments {
-        match all.push(shown_text(alloc, argument)?) {
-            Ok(()) => {}
-            Err(_) => return None,
-        }
+        all.push(shown_text(alloc, argument)?).ok()?;
     }
     Some(all)
 }
@@ -166,10 +165,7 @@ fn shown_text(alloc: Global, argument: &str) -> Option<String>
     ensures { IfSome result (λ text. string_bytes text ≡ shown_name argument.now) }
 {
     let mut shown = Vec::new(alloc);
-    match push_shown(&mut shown, argument.as_bytes()) {
-        Ok(()) => {}
-        Err(_) => return None,
-    }
+    push_shown(&mut shown, argument.as_bytes()).ok()?;
     // The shown text is always UTF-8.
     String::from_utf8(shown).ok()
 }

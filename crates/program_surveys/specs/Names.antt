@@ -2,7 +2,7 @@
 use Rattle.std.specs.Prelude.{ℕ, nat_lt, nat_le, Bool, ◌&&◌, if◌then◌else◌, List, [], ◌∷◌, ◌++◌, map, filter, take, length, codes}
 use Rattle.std.specs.Str.{is_utf8}
 use Rattle.program_console.specs.declared.reason.Reason.{Reason}
-use Rattle.program_console.specs.declared.reason.Reason.TheVariants.{NotUtf8, LongName}
+use Rattle.program_console.specs.declared.reason.Reason.TheVariants.{NotUtf8, ListedNameTooLong}
 
 -- the most bytes of a name in a list
 abbrev pub name_limit : ℕ
@@ -33,7 +33,7 @@ shortened_name name = if nat_le (length name) name_limit then name else take 64 
 
 -- why a name of a list cannot be a file's
 abbrev pub name_reason : List ℕ → Reason
-name_reason name = if nat_le (length name) name_limit then NotUtf8 else LongName
+name_reason name = if nat_le (length name) name_limit then NotUtf8 else ListedNameTooLong
 
 -- the request for a name of a list
 abbrev pub listed_name : List ℕ → Request

@@ -1,5 +1,5 @@
 //! `DumpBuffer`: buffers in which one file after another is read as a dump, and its lists are made.
-ghost use Rattle.std.specs.Prelude.{◌≡◌, if◌then◌else◌, Some, None, OnOk, is_some, length};
+ghost use Rattle.std.specs.Prelude.{◌≡◌, if◌then◌else◌, Some, None, IfOk, OnOk, OnErr, is_some, length, replicate};
 ghost use Rattle.d64_survey.specs.Dump.{wrong_dump_length};
 ghost use Rattle.d64_g64.specs.DumpOf.{dump_of};
 
@@ -18,8 +18,10 @@ pub struct DumpBuffer {
 }
 
 impl DumpBuffer {
-    /// Returns the buffers, with a blank dump.
-    pub fn new(alloc: Global) -> Result<DumpBuffer, AllocError> {
+    /// Returns the buffers, with a blank dump of 35 tracks.
+    pub fn new(alloc: Global) -> Result<DumpBuffer, AllocError>
+        ensures { IfOk result (λ buffer. buffer.dump ≡ record { image = replicate 683 (replicate 256 0); codes = None }) }
+    {
         Ok(DumpBuffer {
             alloc,
             dump: Dump::from_image(alloc, Image::zeroed(alloc)?),
@@ -33,6 +35,7 @@ impl DumpBuffer {
     pub fn refill(&mut self, bytes: &[u8]) -> Result<(), DumpFault>
         ensures refused { wrong_dump_length result ≡ (if is_some (dump_of bytes.now) then None else Some (length bytes.now)) }
         ensures filled { OnOk result (dump_of bytes.now ≡ Some self.new.dump) }
+        ensures unchanged { OnErr result (self.new.dump ≡ self.old.dump) }
     {
         refill_from(&mut self.dump, self.alloc, bytes)
     }

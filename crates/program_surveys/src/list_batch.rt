@@ -1,4 +1,4 @@
-//! `ListBatch`: the same for the names of a list, as its bytes come.
+//! `ListBatch`: processes the files that a list names, each as soon as its name has come.
 ghost use Rattle.std.specs.Prelude.{◌≡◌, Err, [], List, ℕ, true, OnOk};
 ghost use Rattle.host_storage.specs.Input.{IsUnread, IsUnreadable, reading_of};
 ghost use Rattle.program_surveys.specs.FileOutcomes.{KeepsQuiet};
@@ -47,7 +47,7 @@ impl ListBatch {
         self.batch.worst()
     }
 
-    /// Processes the files that an input names, each once its name is ended. `List` comes if the
+    /// Processes the files that an input names, each once its name is ended. `Read` comes if the
     /// input cannot be read to its end: a read failed, or it has more than 16,777,216 bytes, or
     /// takes more than 1,000,000 reads.
     pub fn process_stream<R: Read, H: Host, C: FileTask, W: Write, F: Write>(

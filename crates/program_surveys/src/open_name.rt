@@ -74,7 +74,7 @@ impl OpenName {
             let _ = self.bytes.try_extend_from_slice(b"..");
             return Some(Asked::NoFile {
                 shown: self.bytes.as_slice(),
-                reason: Reason::LongName,
+                reason: Reason::ListedNameTooLong,
             });
         }
         let bytes = self.bytes.as_slice();

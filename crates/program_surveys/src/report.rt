@@ -2,6 +2,7 @@
 ghost use Rattle.std.specs.Prelude.{◌≡◌, []};
 ghost use Rattle.program_surveys.specs.FileOutcomes.{worse_verdict, status_of};
 
+use program_console::{ALL_ACCEPTED, NOT_RUN, SOME_REFUSED};
 use std::alloc::{AllocError, Global};
 
 /// How good a file is, or the worst file of a run.
@@ -32,9 +33,9 @@ impl Verdict {
         ensures { result ≡ status_of self }
     {
         match self {
-            Verdict::Clean => 0,
-            Verdict::Amiss => 1,
-            Verdict::Failed => 2,
+            Verdict::Clean => ALL_ACCEPTED,
+            Verdict::Amiss => SOME_REFUSED,
+            Verdict::Failed => NOT_RUN,
         }
     }
 }
