@@ -1,11 +1,12 @@
 -- What is wrong with a refused line, in plain words.
-use Rattle.std.specs.Prelude.{ℕ, Option, Some, ◌==◌, ◌-◌, nat_lt, if◌then◌else◌, List, [], ◌∷◌, ◌++◌, map, flat_map, codes}
+use Rattle.std.specs.Prelude.{ℕ, Bool, true, false, Option, Some, ◌==◌, ◌-◌, nat_lt, if◌then◌else◌, List, [], ◌∷◌, ◌++◌, map, flat_map, codes}
 use Rattle.std.specs.Option.{option_map_or}
 use Rattle.d64_image.specs.Disk.{Bytes}
 use Rattle.script_text.specs.Number.{number_of}
 use Rattle.script_lines.specs.declared.status.Status.{Status}
 use Rattle.script_lines.specs.declared.status.Status.TheVariants.{Done, FilesScratched, SyntaxError, UnknownCommand, LongLine, BadName, MissingArgument, WriteFileOpen, FileNotFound, FileExists, FileTypeMismatch, IllegalBlock, DirectoryError, DiskFull, HostFile, NothingToUndo, NothingToRedo, NotOneBlock, BasicText, NotBasic, FileLost, OutOfMemory}
 use Rattle.script_advice.specs.LineParts.{LineParts}
+use Rattle.script_lines.specs.Arguments.{at_comma}
 use Rattle.script_lines.specs.LineCommand.{command_named, most_arguments, usage}
 use Rattle.script_advice.specs.Hint.{hint_text}
 use Rattle.script_advice.specs.Faults.{basic_fault, directory_fault}
@@ -18,12 +19,15 @@ use Rattle.script_advice.specs.declared.advice.Advice.{Advice}
 use Rattle.script_advice.specs.declared.advice.Piece.{Piece as CodePiece}
 use Rattle.script_advice.specs.declared.advice.Piece.TheVariants as code
 
--- a piece of the advice: a text, or an argument of the line
+-- a piece of the advice: a text, an argument of the line, or the name in an argument that names a
+-- file and its type
 pub data Piece : Type 0 where
   Text : Bytes → Piece
   Command : Piece
   First : Piece
+  FirstName : Piece
   Second : Piece
+  SecondName : Piece
   Third : Piece
   Fourth : Piece
 
@@ -32,19 +36,27 @@ abbrev pub piece_of : CodePiece → Piece
 piece_of (code.Text text) = Text text.now
 piece_of code.Command = Command
 piece_of code.First = First
+piece_of code.FirstName = FirstName
 piece_of code.Second = Second
+piece_of code.SecondName = SecondName
 piece_of code.Third = Third
 piece_of code.Fourth = Fourth
 
 abbrev pub pieces : Advice → List Piece
 pieces advice = map piece_of advice.pieces
 
+-- what comes before the first comma of an argument, or all of it
+abbrev pub name_part : Bytes → Bytes
+name_part argument = option_map_or (λ parts. parts.0) (at_comma argument) argument
+
 -- the bytes of a piece, by the arguments of the line
 abbrev pub piece_bytes : LineParts → Piece → Bytes
 piece_bytes parts (Text text) = text
 piece_bytes parts Command = parts.command
 piece_bytes parts First = parts.first
+piece_bytes parts FirstName = name_part parts.first
 piece_bytes parts Second = parts.second
+piece_bytes parts SecondName = name_part parts.second
 piece_bytes parts Third = parts.third
 piece_bytes parts Fourth = parts.fourth
 
@@ -79,9 +91,15 @@ file_piece parts (Some Crunch) = second_or_first parts
 file_piece parts (Some Write) = second_or_first parts
 file_piece parts command = First
 
+-- the name in an argument that names a file
+abbrev pub name_of_piece : Piece → Piece
+name_of_piece First = FirstName
+name_of_piece Second = SecondName
+name_of_piece piece = piece
+
 -- a line whose file isn't there
 abbrev pub missing_file : Option LineCommand → List Piece
-missing_file (Some Undelete) = one_piece (codes "the disk has no deleted file \"") First (codes "\"")
+missing_file (Some Undelete) = one_piece (codes "the disk has no deleted file \"") FirstName (codes "\"")
 missing_file command = one_piece (codes "the disk has no file \"") First (codes "\"")
 
 -- the argument of a line that names a file of the host
@@ -103,8 +121,8 @@ wrong_line parts (Some Block) = one_piece (codes "\"") (not_number parts.first F
 wrong_line parts (Some BlockRead) = one_piece (codes "\"") (not_number parts.second Second Third) (codes "\" is not a number from 0 to 255")
 wrong_line parts (Some BlockWrite) = one_piece (codes "\"") (not_number parts.second Second Third) (codes "\" is not a number from 0 to 255")
 wrong_line parts (Some Format) = one_piece (codes "\"") First (codes "\" has no comma between name and id: format NAME,ID")
-wrong_line parts (Some Write) = one_piece (codes "\"") Second (codes "\" does not end with a file type (p, s or u): write HOST NAME,T")
-wrong_line parts (Some Undelete) = one_piece (codes "\"") First (codes "\" does not end with a file type (p, s or u): undelete NAME,T")
+wrong_line parts (Some Write) = one_piece (codes "\"") Second (codes "\" has no file type (p, s or u) after its first comma: write HOST NAME,T")
+wrong_line parts (Some Undelete) = one_piece (codes "\"") First (codes "\" has no file type (p, s or u) after its first comma: undelete NAME,T")
 wrong_line parts command = one_piece (codes "type the line like this: ") (Text (usage_of command)) []
 
 -- a line whose arguments are not what its command takes
@@ -136,21 +154,41 @@ abbrev pub missing_argument : LineParts → Option LineCommand → List Piece
 missing_argument parts (Some Save) = plain_pieces (codes "the session began without an image file, so save takes a name: save HOST")
 missing_argument parts command = one_piece (codes "an argument is missing: ") (Text (usage_of command)) []
 
+-- the disk has no block on this track with this sector
+abbrev pub no_block : Piece → Piece → List Piece
+no_block track sector = two_pieces (codes "the disk has no track ") track (codes " with a sector ") sector (codes ": sectors are numbered from 0, and there are 21 on tracks 1 to 17, 19 on 18 to 24, 18 on 25 to 30, then 17")
+
 -- a line that names a block that the disk doesn't have
 abbrev pub wrong_block : LineParts → Option LineCommand → List Piece
-wrong_block parts (Some Block) = two_pieces (codes "the disk has no track ") First (codes " with a sector ") Second (codes ": sectors are numbered from 0, and there are 21 on tracks 1 to 17, 19 on 18 to 24, 18 on 25 to 30, then 17")
-wrong_block parts command = two_pieces (codes "the disk has no track ") Second (codes " with a sector ") Third (codes ": sectors are numbered from 0, and there are 21 on tracks 1 to 17, 19 on 18 to 24, 18 on 25 to 30, then 17")
+wrong_block parts (Some Block) = no_block First Second
+wrong_block parts command = no_block Second Third
 
--- a host file has this fault
-abbrev pub host_fault : HostFault → Piece → List Piece
-host_fault Missing file = one_piece (codes "the host has no file \"") file (codes "\"")
-host_fault TooLong file = one_piece (codes "the file \"") file (codes "\" has more than 1048576 bytes")
-host_fault fault file = one_piece (codes "the file \"") file (codes "\" cannot be read or written")
+-- whether a command reads its host file
+abbrev pub reads_host_file : Option LineCommand → Bool
+reads_host_file (Some BlockWrite) = true
+reads_host_file (Some Crunch) = true
+reads_host_file (Some Write) = true
+reads_host_file command = false
+
+-- what a command cannot do with its host file
+abbrev pub unusable : Option LineCommand → Bytes
+unusable command = if reads_host_file command then codes "\" cannot be read" else codes "\" cannot be written"
+
+-- the host file of a command has this fault
+abbrev pub host_fault : Option LineCommand → HostFault → Piece → List Piece
+host_fault command Missing file = one_piece (codes "the host has no file \"") file (codes "\"")
+host_fault command TooLong file = one_piece (codes "the file \"") file (codes "\" has more than 1048576 bytes")
+host_fault command fault file = one_piece (codes "the file \"") file (unusable command)
 
 -- a line whose host file has this fault
 abbrev pub wrong_host_file : LineParts → Option LineCommand → HostFault → List Piece
 wrong_host_file parts command fault =
-    if parts.count == 1 then plain_pieces (codes "the image file cannot be written") else host_fault fault (host_piece parts command)
+    if parts.count == 1 then plain_pieces (codes "the image file cannot be written; save HOST stores the image elsewhere") else host_fault command fault (host_piece parts command)
+
+-- a line that names a file of a type that its command does not take
+abbrev pub wrong_type : LineParts → Option LineCommand → List Piece
+wrong_type parts (Some Write) = one_piece (codes "the type in \"") Second (codes "\" cannot be written; p, s and u can be")
+wrong_type parts command = one_piece (codes "the file \"") (name_of_piece (file_piece parts command)) (codes "\" has the wrong type for this command")
 
 -- the advice about a line of a command that was refused with a status
 abbrev pub advice_by : LineParts → Option LineCommand → Status → List Piece
@@ -159,10 +197,10 @@ advice_by parts command UnknownCommand = two_pieces (codes "there is no command 
 advice_by parts command LongLine = plain_pieces (codes "a line has at most 1024 characters")
 advice_by parts command BadName = wrong_name parts command
 advice_by parts command MissingArgument = missing_argument parts command
-advice_by parts command WriteFileOpen = one_piece (codes "the file \"") First (codes "\" was never closed, so it cannot be read")
+advice_by parts command WriteFileOpen = one_piece (codes "the file \"") First (codes "\" was never closed, so it cannot be read; d64sh extract --part writes what is there")
 advice_by parts command FileNotFound = missing_file command
-advice_by parts command FileExists = one_piece (codes "the disk already has a file named \"") (file_piece parts command) (codes "\"")
-advice_by parts command FileTypeMismatch = one_piece (codes "the file \"") (file_piece parts command) (codes "\" has the wrong type for this command")
+advice_by parts command FileExists = one_piece (codes "the disk already has a file named \"") (name_of_piece (file_piece parts command)) (codes "\"")
+advice_by parts command FileTypeMismatch = wrong_type parts command
 advice_by parts command (IllegalBlock track sector) = wrong_block parts command
 advice_by parts command (DirectoryError fault) = one_piece (codes "the disk is damaged: ") (Text (directory_fault fault)) (codes "; d64sh check shows where")
 advice_by parts command DiskFull = plain_pieces (codes "there is not enough space on the disk or in its directory")

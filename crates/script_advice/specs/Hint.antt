@@ -35,8 +35,8 @@ hints =
     ∷ (codes "recover", codes "; undelete brings a deleted file back")
     ∷ (codes "exit", codes "; quit ends the session")
     ∷ (codes "x", codes "; quit ends the session")
-    ∷ (codes "help", codes "; d64sh help shell lists the commands")
-    ∷ (codes "?", codes "; d64sh help shell lists the commands")
+    ∷ (codes "help", codes "; at a prompt help lists the commands, and elsewhere d64sh help shell")
+    ∷ (codes "?", codes "; at a prompt help lists the commands, and elsewhere d64sh help shell")
     ∷ (codes "version", codes "; d64sh --version prints it")
     ∷ (codes "geosextract", codes "; d64sh has no command for this")
     ∷ (codes "geosread", codes "; d64sh has no command for this")
@@ -57,4 +57,4 @@ hint_for name = option_map (λ row. row.1) (find (λ row. bytes_eq name row.0) h
 
 -- what is said of a name that is no command: its hint, or where the commands are listed
 abbrev pub hint_text : Bytes → Bytes
-hint_text name = unwrap_or (hint_for name) (codes "; d64sh help shell lists the commands")
+hint_text name = unwrap_or (hint_for name) (codes "; at a prompt help lists the commands, and elsewhere d64sh help shell")

@@ -1,11 +1,12 @@
 //! What is wrong with a refused line, in plain words.
 ghost use Rattle.std.specs.Prelude.{◌≡◌};
-ghost use Rattle.script_advice.specs.Advice.{advice, file_piece, host_piece, missing_argument, missing_file, most_of, not_number, one_piece, piece_of, pieces, plain_pieces, piece_bytes, surplus_piece, two_pieces, usage_of, wrong_block, wrong_host_file, wrong_line, wrong_name, wrong_arguments};
+ghost use Rattle.script_advice.specs.Advice.{advice, file_piece, host_piece, missing_argument, missing_file, most_of, name_of_piece, name_part, not_number, one_piece, piece_of, pieces, plain_pieces, piece_bytes, surplus_piece, two_pieces, unusable, usage_of, wrong_block, wrong_host_file, wrong_line, wrong_name, wrong_type, wrong_arguments};
 
 use crate::faults::{basic_fault, directory_fault};
 use crate::hint::hint_text;
 use crate::line_parts::LineParts;
 use host_storage::HostFault;
+use script_lines::arguments::at_comma;
 use script_lines::{LineCommand, Status};
 use script_text::number::number;
 
@@ -15,7 +16,11 @@ pub(crate) enum Piece {
     Text(&'static [u8]),
     Command,
     First,
+    /// The name in the first argument, if that names a file and its type.
+    FirstName,
     Second,
+    /// The name in the second argument.
+    SecondName,
     Third,
     Fourth,
 }
@@ -29,10 +34,33 @@ impl Piece {
             Piece::Text(text) => text,
             Piece::Command => parts.command.as_bytes(),
             Piece::First => parts.first.as_bytes(),
+            Piece::FirstName => name_part(parts.first),
             Piece::Second => parts.second.as_bytes(),
+            Piece::SecondName => name_part(parts.second),
             Piece::Third => parts.third.as_bytes(),
             Piece::Fourth => parts.fourth.as_bytes(),
         }
+    }
+
+    /// The name in an argument that names a file.
+    fn name(self) -> Piece
+        ensures { piece_of result ≡ name_of_piece (piece_of self) }
+    {
+        match self {
+            Piece::First => Piece::FirstName,
+            Piece::Second => Piece::SecondName,
+            piece => piece,
+        }
+    }
+}
+
+/// What comes before the first comma of an argument, or all of it.
+fn name_part(argument: &str) -> &[u8]
+    ensures { result.now ≡ name_part argument.now }
+{
+    match at_comma(argument.as_bytes()) {
+        Some((name, _)) => name,
+        None => argument.as_bytes(),
     }
 }
 
@@ -98,19 +126,15 @@ impl Advice {
             Status::WriteFileOpen => Advice::one(
                 b"the file \"",
                 Piece::First,
-                b"\" was never closed, so it cannot be read",
+                b"\" was never closed, so it cannot be read; d64sh extract --part writes what is there",
             ),
             Status::FileNotFound => missing_file(command),
             Status::FileExists => Advice::one(
                 b"the disk already has a file named \"",
-                file_piece(parts, command),
+                file_piece(parts, command).name(),
                 b"\"",
             ),
-            Status::FileTypeMismatch => Advice::one(
-                b"the file \"",
-                file_piece(parts, command),
-                b"\" has the wrong type for this command",
-            ),
+            Status::FileTypeMismatch => wrong_type(parts, command),
             Status::IllegalBlock { .. } => wrong_block(parts, command),
             Status::DirectoryError(fault) => Advice::one(
                 b"the disk is damaged: ",
@@ -180,7 +204,7 @@ fn missing_file(command: Option<LineCommand>) -> Advice
     match command {
         Some(LineCommand::Undelete) => Advice::one(
             b"the disk has no deleted file \"",
-            Piece::First,
+            Piece::FirstName,
             b"\"",
         ),
         _ => Advice::one(b"the disk has no file \"", Piece::First, b"\""),
@@ -269,7 +293,9 @@ fn wrong_host_file(parts: &LineParts<'_>, command: Option<LineCommand>, fault: H
     ensures { pieces result ≡ wrong_host_file parts.now command fault }
 {
     if parts.count == 1 {
-        return Advice::plain(b"the image file cannot be written");
+        return Advice::plain(
+            b"the image file cannot be written; save HOST stores the image elsewhere",
+        );
     }
     let piece = host_piece(parts, command);
     match fault {
@@ -278,8 +304,38 @@ fn wrong_host_file(parts: &LineParts<'_>, command: Option<LineCommand>, fault: H
             Advice::one(b"the file \"", piece, b"\" has more than 1048576 bytes")
         }
         HostFault::Device | HostFault::Memory(_) => {
-            Advice::one(b"the file \"", piece, b"\" cannot be read or written")
+            Advice::one(b"the file \"", piece, unusable(command))
         }
+    }
+}
+
+/// What a command cannot do with its host file.
+fn unusable(command: Option<LineCommand>) -> &'static [u8]
+    ensures { result.now ≡ unusable command }
+{
+    match command {
+        Some(LineCommand::BlockWrite | LineCommand::Crunch | LineCommand::Write) => {
+            b"\" cannot be read"
+        }
+        _ => b"\" cannot be written",
+    }
+}
+
+/// A line that names a file of a type that its command does not take.
+fn wrong_type(parts: &LineParts<'_>, command: Option<LineCommand>) -> Advice
+    ensures { pieces result ≡ wrong_type parts.now command }
+{
+    match command {
+        Some(LineCommand::Write) => Advice::one(
+            b"the type in \"",
+            Piece::Second,
+            b"\" cannot be written; p, s and u can be",
+        ),
+        _ => Advice::one(
+            b"the file \"",
+            file_piece(parts, command).name(),
+            b"\" has the wrong type for this command",
+        ),
     }
 }
 
@@ -306,12 +362,12 @@ fn wrong_line(parts: &LineParts<'_>, command: Option<LineCommand>) -> Advice
         Some(LineCommand::Write) => Advice::one(
             b"\"",
             Piece::Second,
-            b"\" does not end with a file type (p, s or u): write HOST NAME,T",
+            b"\" has no file type (p, s or u) after its first comma: write HOST NAME,T",
         ),
         Some(LineCommand::Undelete) => Advice::one(
             b"\"",
             Piece::First,
-            b"\" does not end with a file type (p, s or u): undelete NAME,T",
+            b"\" has no file type (p, s or u) after its first comma: undelete NAME,T",
         ),
         _ => Advice::one(
             b"type the line like this: ",
@@ -405,20 +461,15 @@ fn missing_argument(parts: &LineParts<'_>, command: Option<LineCommand>) -> Advi
 fn wrong_block(parts: &LineParts<'_>, command: Option<LineCommand>) -> Advice
     ensures { pieces result ≡ wrong_block parts.now command }
 {
-    match command {
-        Some(LineCommand::Block) => Advice::two(
-            b"the disk has no track ",
-            Piece::First,
-            b" with a sector ",
-            Piece::Second,
-            b": sectors are numbered from 0, and there are 21 on tracks 1 to 17, 19 on 18 to 24, 18 on 25 to 30, then 17",
-        ),
-        _ => Advice::two(
-            b"the disk has no track ",
-            Piece::Second,
-            b" with a sector ",
-            Piece::Third,
-            b": sectors are numbered from 0, and there are 21 on tracks 1 to 17, 19 on 18 to 24, 18 on 25 to 30, then 17",
-        ),
-    }
+    let (track, sector) = match command {
+        Some(LineCommand::Block) => (Piece::First, Piece::Second),
+        _ => (Piece::Second, Piece::Third),
+    };
+    Advice::two(
+        b"the disk has no track ",
+        track,
+        b" with a sector ",
+        sector,
+        b": sectors are numbered from 0, and there are 21 on tracks 1 to 17, 19 on 18 to 24, 18 on 25 to 30, then 17",
+    )
 }

@@ -18,7 +18,7 @@ const UNDELETE: &[u8] = b"; undelete brings a deleted file back";
 
 const QUIT: &[u8] = b"; quit ends the session";
 
-const COMMANDS: &[u8] = b"; d64sh help shell lists the commands";
+const COMMANDS: &[u8] = b"; at a prompt help lists the commands, and elsewhere d64sh help shell";
 
 const ABSENT: &[u8] = b"; d64sh has no command for this";
 

@@ -17,7 +17,7 @@ pub struct LineParts<'a> {
     pub second: &'a str,
     pub third: &'a str,
     pub fourth: &'a str,
-    /// How many arguments the line has, counting the command.
+    /// How many parts the line has: its command and its arguments.
     pub count: usize,
 }
 
@@ -66,7 +66,7 @@ impl<'a> LineParts<'a> {
         }
     }
 
-    /// The parts of a line with these arguments.
+    /// The parts of a line, of which the first is the command.
     fn of_words(words: Words<'a>) -> LineParts<'a>
         requires { All (All IsPrintable) words }
         ensures { result ≡ parts_of_words words.entry }
@@ -84,7 +84,7 @@ impl<'a> LineParts<'a> {
     }
 }
 
-/// The next argument, which is empty if there is none.
+/// The next part, which is empty if there is none.
 fn next_word<'a>(words: &mut Words<'a>) -> &'a str
     requires { All (All IsPrintable) words.old }
     ensures word { result.now ≡ first_of words.old }

@@ -32,8 +32,9 @@ pub fn write_refusal<W: Write, H: Host>(
     image: &Image,
 ) -> Result<(), WriteFault>
     ensures same { output.new.writer.ghost_name ≡ output.old.writer.ghost_name }
-    ensures says { (words : List ℕ) × MaySay (H.state host.old) image.now start.now parts.now status.now words
-        × Writes (account_at W.contents output.old) (account_at W.contents output.new) words }
+    ensures says { (said : List ℕ) × MaySay (H.state host.old) image.now start.now parts.now status.now said
+        × Writes (account_at W.contents output.old) (account_at W.contents output.new) said }
+    ensures files_kept { (H.state host.new).files ≡ (H.state host.old).files }
 {
     match cause_line(alloc, host, start, parts.first, status, image) {
         Some(line) => output.write(line.as_slice()),
@@ -51,7 +52,8 @@ fn cause_line<H: Host>(
     status: &Status,
     image: &Image,
 ) -> Option<Vec<u8>>
-    ensures { IfSome result (λ line. IsCauseLine (H.state host.old) image.now start.now name.now status.now line.items) }
+    ensures line { IfSome result (λ line. IsCauseLine (H.state host.old) image.now start.now name.now status.now line.items) }
+    ensures files_kept { (H.state host.new).files ≡ (H.state host.old).files }
 {
     match text_line(alloc, host, start, name, status) {
         Some(line) => Some(line),

@@ -18,7 +18,8 @@ pub(crate) fn text_line<H: Host>(
     name: &str,
     status: &Status,
 ) -> Option<Vec<u8>>
-    ensures { IfSome result (λ line. IsFoundLine (H.state host.old) start.now name.now status.now line.items) }
+    ensures line { IfSome result (λ line. IsFoundLine (H.state host.old) start.now name.now status.now line.items) }
+    ensures files_kept { (H.state host.new).files ≡ (H.state host.old).files }
 {
     let cause = text_cause(alloc, host, name, status)?;
     line_about(alloc, start, name, cause).ok()
@@ -41,7 +42,8 @@ fn line_about(alloc: Global, start: &[u8], name: &str, cause: Cause) -> Result<V
 
 /// What is wrong with the text in the host file with this name that was refused with this status.
 fn text_cause<H: Host>(alloc: Global, host: &mut H, name: &str, status: &Status) -> Option<Cause>
-    ensures { IfSome result (IsFoundCause (H.state host.old) name.now status.now) }
+    ensures cause { IfSome result (IsFoundCause (H.state host.old) name.now status.now) }
+    ensures files_kept { (H.state host.new).files ≡ (H.state host.old).files }
 {
     let Status::BasicText(fault) = *status else {
         return None;

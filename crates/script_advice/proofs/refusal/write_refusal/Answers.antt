@@ -7,5 +7,5 @@ use Rattle.script_advice.proofs.refusal.write_refusal.Goals as goal
 pub returns-in-Some-clause-says : goal.returns-in-Some-clause-says
 returns-in-Some-clause-says g c =
     let first = ap (λ (parts : LineParts). parts.first) c.parts.view_is in
-    let found = subst (λ (name : List ℕ). IsCauseLine (g.H.Host.state c.args.host.now) c.args.image.now c.args.start.now name c.args.status.now c.in-Some.line.items) first c.in-Some.ensures in
+    let found = subst (λ (name : List ℕ). IsCauseLine (g.H.Host.state c.args.host.now) c.args.image.now c.args.start.now name c.args.status.now c.in-Some.line.items) first c.in-Some.ensures.line in
     (c.in-Some.line.items, inl found, rw c.as_slice.ensures.value at c.write.ensures.either)
