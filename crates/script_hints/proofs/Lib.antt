@@ -1,2 +1,3 @@
 mod LineStarts
 mod Remarks
+mod Saying

@@ -3,7 +3,7 @@ use Rattle.std.proofs.Common.{◌≡◌, ℕ, Bool, true, List, Option, None, So
 use Rattle.std.specs.Option.{option_map_or}
 use Rattle.script_text.specs.HeldLine.{HoldsText}
 use Rattle.script_text.specs.declared.held_line.HeldLine.{HeldLine}
-use Rattle.script_hints.specs.Ear.{MayStart, shown_raw_text}
+use Rattle.script_hints.specs.Observed.{MayStart, shown_raw_text}
 use Rattle.script_hints.specs.LineStart.{line_start}
 
 pub may_start : {V : Type 0} (items : V → List ℕ) (line : HeldLine) (is_numbered : Bool) (number : ℕ) (first raw start : List ℕ) (found : Option V)

@@ -7,7 +7,7 @@ use Rattle.script_lines.specs.declared.status.Status.{Status}
 use Rattle.script_advice.specs.Found.{IsDefaultName}
 use Rattle.script_advice.specs.LineParts.{parts_of_line}
 use Rattle.script_advice.specs.Remark.{IsRemark}
-use Rattle.script_hints.specs.Ear.{MayRemark, shown_raw_text}
+use Rattle.script_hints.specs.Observed.{MayRemark, shown_raw_text}
 use Rattle.script_hints.specs.Kept.{MayBeDefault}
 
 -- the name under which `read` stores by default

@@ -2,6 +2,6 @@ pub mod Kept
 pub mod LineStart
 pub mod Prompt
 pub mod Leaving
-pub mod Ear
+pub mod Observed
 pub mod Unfit
 pub mod Past

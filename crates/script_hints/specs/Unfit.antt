@@ -1,5 +1,6 @@
 -- Why no session begins with a file.
-use Rattle.std.specs.Prelude.{◌≡◌, ◌==◌, ◌||◌, if◌then◌else◌, ℕ, List, ◌++◌, length, Option, Some, Result, Ok, Err, codes}
+use Rattle.std.specs.Prelude.{◌≡◌, ◌==◌, ◌||◌, nat_eq, if◌then◌else◌, ℕ, List, ◌++◌, length, Option, Some, Result, Ok, Err, codes}
+use Rattle.std.specs.List.{starts_with}
 use Rattle.std.specs.Option.{option_map_or}
 use Rattle.d64_image.specs.Disk.{Bytes}
 use Rattle.host_storage.specs.Files.{Files}
@@ -19,14 +20,18 @@ abbrev pub fetched_by : {B : Type 0} → (B → Bytes) → Result B HostFault �
 fetched_by bytes_of (Ok bytes) = Ok (bytes_of bytes)
 fetched_by bytes_of (Err fault) = Err fault
 
--- a file for which there is no guess: an image with one more byte for each block, or no image at
--- all
-abbrev pub other_look : ℕ → List ℕ
-other_look len = if len == 175531 || len == 197376 then codes "an image with error bytes" else codes "not a disk image"
+-- a file for which there is no guess, by its length: an image with one more byte for each block, or
+-- no image at all
+abbrev pub look_by_length : ℕ → List ℕ
+look_by_length len = if len == 175531 || len == 197376 then codes "an image with error bytes" else codes "not a disk image"
+
+-- such a file, which may be a session
+abbrev pub other_look : Bytes → List ℕ
+other_look bytes = if starts_with nat_eq bytes (codes "D64S") then codes "a session file, which d64sh shell --resume takes" else look_by_length (length bytes)
 
 -- what a file looks like whose length no image has
 abbrev pub look_of : Bytes → List ℕ
-look_of bytes = option_map_or guess_text (guess_of bytes) (other_look (length bytes))
+look_of bytes = option_map_or guess_text (guess_of bytes) (other_look bytes)
 
 -- what is said about a file with these bytes
 unfoldable pub unfit_text : Bytes → List ℕ

@@ -9,11 +9,11 @@ ghost use Rattle.script_text.specs.RawLines.{line_limit};
 ghost use Rattle.script_lines.specs.Status.{is_accepted};
 ghost use Rattle.d64_history.specs.History.{present_image};
 ghost use Rattle.std.specs.Option.{option_map_or};
-ghost use Rattle.script_hints.specs.LineStart.{line_start};
-ghost use Rattle.script_hints.specs.Ear.{MayRemark, MayStart, asks_for_help, shown_raw_text, stops_at_refusal};
+ghost use Rattle.script_hints.specs.LineStart.{line_start, shown_raw_line};
+ghost use Rattle.script_hints.specs.Observed.{Explains, Remarks, WritesEach, asks_for_help, is_explained, is_remarked, lines_if, named_changes, one_more_line, shown_raw_text, stops_at_refusal};
 ghost use Rattle.script_hints.specs.Kept.{MayBeDefault, effect_of, is_unsaved, kept_after, kept_in, unsaved_line};
 ghost use Rattle.script_hints.specs.Leaving.{IsKeptUnder};
-ghost use Rattle.script_hints.specs.Past.{change_line, command_of, known_line, redone_line, undone_line};
+ghost use Rattle.script_hints.specs.Past.{IsKnownAfter, change_line, command_of, known_line};
 ghost use Rattle.script_hints.specs.Prompt.{name_in_prompt, prompt};
 ghost use Rattle.script_lines.specs.declared.line_command.LineCommand.TheVariants.{Quit, Redo, Undo};
 ghost use Rattle.script_advice.specs.LineParts.{parts_of_line};
@@ -113,8 +113,7 @@ impl<'w, W: Write, H: Host> Advisor<'w, W, H> {
 
     /// Lets it explain why no session begins, if none does.
     pub fn explain_misses(&mut self)
-        ensures output { self.new.output ≡ self.old.output }
-        ensures shown { self.new.is_shown ≡ true }
+        ensures { self.new ≡ record self.old { is_shown = true } }
     {
         self.is_shown = true;
     }
@@ -129,13 +128,12 @@ impl<'w, W: Write, H: Host> Advisor<'w, W, H> {
 
     /// Notes that the session begins, and says nothing about it.
     pub fn begin_with(&mut self, opening: &Opening<'_>, session: &Session)
-        ensures output { self.new.output ≡ self.old.output }
+        ensures others { self.new ≡ record self.old { is_typed = self.new.is_typed; is_numbered = self.new.is_numbered; kept = self.new.kept; name = self.new.name; files = self.new.files; done = self.new.done } }
         ensures typed { self.new.is_typed ≡ (self.old.is_terminal && not opening.now.is_given) }
         ensures numbered { self.new.is_numbered ≡ (opening.now.is_given || stops_at_refusal opening.now.refusals) }
         ensures kept { self.new.is_typed ≡ true → self.new.kept ≡ Some (kept_in (present_image session.now) (option_copied opening.now.held_in)) }
         ensures name { self.new.is_typed ≡ true → IfSome self.new.name (λ name. name.items ≡ name_in_prompt (option_copied opening.now.home)) }
         ensures counted { self.new.is_typed ≡ true → (self.new.files ≡ file_count (present_image session.now)) × (self.new.done ≡ session.now.cursor) }
-        ensures left { self.new.is_left ≡ self.old.is_left }
     {
         self.is_typed = self.is_terminal && !opening.is_given;
         self.is_numbered = opening.is_given || matches!(opening.refusals, Refusals::Stop);
@@ -152,71 +150,224 @@ impl<'w, W: Write, H: Host> Advisor<'w, W, H> {
         ensures lent { self.new.output.writer.ghost_name ≡ self.old.output.writer.ghost_name }
         ensures asked { Writes (account_at W.contents self.old.output) (account_at W.contents self.new.output)
             (prompt (option_map_or (λ name. name.items) self.old.name (codes "d64sh")) (is_unsaved self.old.kept image.now)) }
-        ensures prompting { self.new.is_prompting ≡ true }
-        ensures left { self.new.is_left ≡ self.old.is_left }
+        ensures others { self.new ≡ record self.old { output = self.new.output; is_prompting = true } }
     {
         let is_unsaved = is_unsaved(self.kept, image);
         let _ = write_prompt(&mut self.output, bytes_of(&self.name, b"d64sh"), is_unsaved);
         self.is_prompting = true;
     }
 
-    /// Follows a line that has run, and explains it if it was refused.
-    pub fn advise(&mut self, home: Option<&str>, line: &HeldLine, status: &Status, image: &Image)
+    /// Observes a line that was read, and that has run and left this session: says why it was refused,
+    /// and at a terminal what else there is to say of it.
+    pub fn observe_with(
+        &mut self,
+        home: Option<&str>,
+        line: &HeldLine,
+        status: &Status,
+        session: &Session,
+    )
         ensures lent { self.new.output.writer.ghost_name ≡ self.old.output.writer.ghost_name }
-        ensures typed { self.new.is_typed ≡ self.old.is_typed }
-        ensures numbered { self.new.is_numbered ≡ self.old.is_numbered }
-        ensures lines { self.new.lines ≡ self.old.lines }
-        ensures kept { (raw : List ℕ) → HoldsText line.now raw → self.old.is_typed ≡ true → is_accepted status.now ≡ true → (found : List ℕ) × MayBeDefault image.now (parts_of_line raw).first found × (self.new.kept ≡ kept_after self.old.kept (effect_of (option_copied home.entry) found (parts_of_line raw)) image.now) }
-        ensures held { is_accepted status.now ≡ false → self.new.kept ≡ self.old.kept }
-        ensures advised { (raw : List ℕ) → HoldsText line.now raw → is_accepted status.now ≡ false → (start said : List ℕ)
-            × MayStart self.old.is_numbered self.old.lines (shown_raw_text raw self.old.first_bytes.items) start
-            × MaySay (H.state self.old.host) image.now start (parts_of_line raw) status.now said
-            × Writes (account_at W.contents self.old.output) (account_at W.contents self.new.output) said }
-        ensures silent { is_accepted status.now ≡ true → self.new.output ≡ self.old.output }
-        ensures left { self.new.is_left ≡ self.old.is_left }
+        ensures said { (raw : List ℕ) → HoldsText line.now raw → (refusal remark : List (List ℕ)) × (rows : List ℕ)
+            × Explains (is_explained self.old.is_numbered self.old.is_typed raw status.now) (H.state self.old.host) self.old.is_numbered (one_more_line self.old.lines) self.old.first_bytes.items raw status.now (present_image session.now) refusal
+            × Remarks (is_remarked self.old.is_numbered self.old.is_typed status.now) raw status.now (present_image session.now) self.old.files remark
+            × WritesEach (account_at W.contents self.old.output) (account_at W.contents self.new.output)
+            (refusal ++ (lines_if (self.old.is_typed && asks_for_help raw status.now) rows ++ (remark
+            ++ named_changes (self.old.is_typed && is_accepted status.now) (command_of raw) (known_line self.old.past session.now.cursor) (known_line self.old.past self.old.done)))) }
+        ensures files_kept { (H.state self.new.host).files ≡ (H.state self.old.host).files }
+        ensures read { (self.new.lines ≡ one_more_line self.old.lines) × (self.new.is_prompting ≡ false) × (self.new.first_bytes.items ≡ []) }
+        ensures same { (self.new.is_typed ≡ self.old.is_typed) × (self.new.is_numbered ≡ self.old.is_numbered) }
+        ensures kept { (raw : List ℕ) → HoldsText line.now raw → (self.old.is_typed && is_accepted status.now) ≡ true
+            → (found : List ℕ) × MayBeDefault (present_image session.now) (parts_of_line raw).first found × (self.new.kept ≡ kept_after self.old.kept (effect_of (option_copied home.entry) found (parts_of_line raw)) (present_image session.now)) }
+        ensures held { (self.old.is_typed && is_accepted status.now) ≡ false → (self.new.kept ≡ self.old.kept) × (self.new.done ≡ self.old.done) × (self.new.is_left ≡ self.old.is_left) }
+        ensures files { self.new.files ≡ (if is_remarked self.old.is_numbered self.old.is_typed status.now then file_count (present_image session.now) else self.old.files) }
+        ensures done { (self.old.is_typed && is_accepted status.now) ≡ true → self.new.done ≡ session.now.cursor }
+        ensures past { (raw : List ℕ) (other : ℕ) → HoldsText line.now raw → (known_line self.new.past other ≡ known_line self.old.past other)
+            ⊎ IsKnownAfter self.old.past self.old.done (shown_raw_line (shown_raw_text raw [])) other (known_line self.new.past other) }
+        ensures left { (raw : List ℕ) → HoldsText line.now raw → (self.old.is_typed && is_accepted status.now) ≡ true → command_of raw ≡ Some Quit → self.new.is_left ≡ true }
+        ensures stays { (raw : List ℕ) → HoldsText line.now raw → command_of raw ≢ Some Quit → self.new.is_left ≡ self.old.is_left }
     {
+        self.explain_refusal(line, status, session.image());
+        self.list_commands(line, status);
+        self.remark_on(line, status, session.image());
+        self.follow(home, line, status, session);
+        self.pass_line();
+    }
+
+    /// Says why a line was refused, if such lines are named by their numbers or it was typed. If it
+    /// asks there which commands there are, that is no fault.
+    fn explain_refusal(&mut self, line: &HeldLine, status: &Status, image: &Image)
+        ensures lent { self.new.output.writer.ghost_name ≡ self.old.output.writer.ghost_name }
+        ensures others { self.new ≡ record self.old { output = self.new.output; host = self.new.host } }
+        ensures files_kept { (H.state self.new.host).files ≡ (H.state self.old.host).files }
+        ensures explained { (raw : List ℕ) → HoldsText line.now raw → (texts : List (List ℕ))
+            × Explains (is_explained self.old.is_numbered self.old.is_typed raw status.now) (H.state self.old.host) self.old.is_numbered (one_more_line self.old.lines) self.old.first_bytes.items raw status.now image.now texts
+            × WritesEach (account_at W.contents self.old.output) (account_at W.contents self.new.output) texts }
+    {
+        if !self.is_explained(line, status) {
+            return;
+        }
         let parts = LineParts::of(line);
-        if status.is_accepted() {
-            if self.is_typed {
-                let found = default_name(self.alloc, image, parts.first).unwrap_or(None);
-                self.kept = kept_after(self.kept, home, bytes_of(&found, b""), &parts, image);
-            }
-        } else {
-            let start = self.start_of(line);
-            let start = bytes_of(&start, b"d64sh: ");
-            let _ = write_refusal(
-                self.alloc,
-                &mut self.host,
-                &mut self.output,
-                start,
-                &parts,
-                status,
-                image,
-            );
+        let start = self.start_of(line);
+        let start = bytes_of(&start, b"d64sh: ");
+        let _ = write_refusal(
+            self.alloc,
+            &mut self.host,
+            &mut self.output,
+            start,
+            &parts,
+            status,
+            image,
+        );
+    }
+
+    /// Whether it says why a line was refused.
+    fn is_explained(&self, line: &HeldLine, status: &Status) -> bool
+        ensures { (raw : List ℕ) → HoldsText line.now raw → result ≡ is_explained self.now.is_numbered self.now.is_typed raw status.now }
+    {
+        !status.is_accepted() && (self.is_numbered || self.is_typed && !asks_for_help(line, status))
+    }
+
+    /// Lists the commands, if a line asks for them that was typed.
+    fn list_commands(&mut self, line: &HeldLine, status: &Status)
+        ensures lent { self.new.output.writer.ghost_name ≡ self.old.output.writer.ghost_name }
+        ensures others { self.new ≡ record self.old { output = self.new.output } }
+        ensures listed { (raw : List ℕ) → HoldsText line.now raw → (rows : List ℕ)
+            × WritesEach (account_at W.contents self.old.output) (account_at W.contents self.new.output) (lines_if (self.old.is_typed && asks_for_help raw status.now) rows) }
+    {
+        if self.is_asked(line, status) {
+            let _ = self.output.write(ROWS);
         }
     }
 
-    /// Keeps the first bytes of the line that is being read.
-    #[tactic(auto, using(std::proofs::lemmas::List::take_min))]
-    fn hold(&mut self, bytes: &[u8])
-        ensures { self.new.first_bytes.items ≡ self.old.first_bytes.items ++ take (line_limit - length self.old.first_bytes.items) bytes.now }
+    /// Whether a line was typed that asks which commands there are.
+    fn is_asked(&self, line: &HeldLine, status: &Status) -> bool
+        ensures { (raw : List ℕ) → HoldsText line.now raw → result ≡ (self.now.is_typed && asks_for_help raw status.now) }
     {
-        let room = LINE_BYTES - self.first_bytes.len();
-        let held = &bytes[..room.min(bytes.len())];
-        let _ = self.first_bytes.try_extend_from_slice(held);
+        self.is_typed && asks_for_help(line, status)
+    }
+
+    /// Says what else there is to say about a line that was typed and left this image, if there is
+    /// memory; of a refused one only if the script goes on.
+    fn remark_on(&mut self, line: &HeldLine, status: &Status, image: &Image)
+        ensures lent { self.new.output.writer.ghost_name ≡ self.old.output.writer.ghost_name }
+        ensures others { self.new ≡ record self.old { output = self.new.output; files = self.new.files } }
+        ensures remarked { (raw : List ℕ) → HoldsText line.now raw → (texts : List (List ℕ))
+            × Remarks (is_remarked self.old.is_numbered self.old.is_typed status.now) raw status.now image.now self.old.files texts
+            × WritesEach (account_at W.contents self.old.output) (account_at W.contents self.new.output) texts }
+        ensures files { self.new.files ≡ (if is_remarked self.old.is_numbered self.old.is_typed status.now then file_count image.now else self.old.files) }
+    {
+        if !self.is_remarked(status) {
+            return;
+        }
+        let text = text_of(line, b"");
+        let parts = LineParts::of(line);
+        let nothing = Vec::new(self.alloc);
+        let said = remark(self.alloc, text, &parts, status, image, self.files).unwrap_or(nothing);
+        let _ = self.output.write(said.as_slice());
+        self.files = file_count(image);
+    }
+
+    /// Whether it says more of a line of this status, if there is more to say.
+    fn is_remarked(&self, status: &Status) -> bool
+        ensures { result ≡ is_remarked self.now.is_numbered self.now.is_typed status.now }
+    {
+        self.is_typed && (status.is_accepted() || !self.is_numbered)
+    }
+
+    /// Follows the session along a line that was typed and accepted.
+    fn follow(&mut self, home: Option<&str>, line: &HeldLine, status: &Status, session: &Session)
+        ensures lent { self.new.output.writer.ghost_name ≡ self.old.output.writer.ghost_name }
+        ensures others { self.new ≡ record self.old { output = self.new.output; kept = self.new.kept; done = self.new.done; past = self.new.past; is_left = self.new.is_left } }
+        ensures silent { (self.old.is_typed && is_accepted status.now) ≡ false → self.new ≡ self.old }
+        ensures kept { (raw : List ℕ) → HoldsText line.now raw → (self.old.is_typed && is_accepted status.now) ≡ true
+            → (found : List ℕ) × MayBeDefault (present_image session.now) (parts_of_line raw).first found × (self.new.kept ≡ kept_after self.old.kept (effect_of (option_copied home.entry) found (parts_of_line raw)) (present_image session.now)) }
+        ensures done { (self.old.is_typed && is_accepted status.now) ≡ true → self.new.done ≡ session.now.cursor }
+        ensures named { (raw : List ℕ) → HoldsText line.now raw → WritesEach (account_at W.contents self.old.output) (account_at W.contents self.new.output)
+            (named_changes (self.old.is_typed && is_accepted status.now) (command_of raw) (known_line self.old.past session.now.cursor) (known_line self.old.past self.old.done)) }
+        ensures past { (raw : List ℕ) (other : ℕ) → HoldsText line.now raw → (known_line self.new.past other ≡ known_line self.old.past other)
+            ⊎ IsKnownAfter self.old.past self.old.done (shown_raw_line (shown_raw_text raw [])) other (known_line self.new.past other) }
+        ensures left { (raw : List ℕ) → HoldsText line.now raw → (self.old.is_typed && is_accepted status.now) ≡ true → command_of raw ≡ Some Quit → self.new.is_left ≡ true }
+        ensures stays { (raw : List ℕ) → HoldsText line.now raw → command_of raw ≢ Some Quit → self.new.is_left ≡ self.old.is_left }
+    {
+        if self.is_followed(status) {
+            self.keep(home, line, session.image());
+            self.follow_change(line, session);
+        }
+    }
+
+    /// Whether a line of this status is followed: it was typed and accepted.
+    fn is_followed(&self, status: &Status) -> bool
+        ensures { result ≡ (self.now.is_typed && is_accepted status.now) }
+    {
+        self.is_typed && status.is_accepted()
+    }
+
+    /// Follows what the host has of the session, along an accepted line that left this image.
+    fn keep(&mut self, home: Option<&str>, line: &HeldLine, image: &Image)
+        ensures others { self.new ≡ record self.old { kept = self.new.kept } }
+        ensures kept { (raw : List ℕ) → HoldsText line.now raw → (found : List ℕ) × MayBeDefault image.now (parts_of_line raw).first found
+            × (self.new.kept ≡ kept_after self.old.kept (effect_of (option_copied home.entry) found (parts_of_line raw)) image.now) }
+    {
+        let parts = LineParts::of(line);
+        let found = default_name(self.alloc, image, parts.first).unwrap_or(None);
+        self.kept = kept_after(self.kept, home, bytes_of(&found, b""), &parts, image);
+    }
+
+    /// Keeps the first bytes of the line that is being read, if lines are named by their numbers.
+    #[tactic(auto, using(std::proofs::lemmas::List::take_min))]
+    pub fn hold(&mut self, bytes: &[u8])
+        ensures others { self.new ≡ record self.old { first_bytes = self.new.first_bytes } }
+        ensures held { self.old.is_numbered ≡ true → self.new.first_bytes.items ≡ self.old.first_bytes.items ++ take (line_limit - length self.old.first_bytes.items) bytes.now }
+        ensures unheld { self.old.is_numbered ≡ false → self.new.first_bytes ≡ self.old.first_bytes }
+    {
+        if self.is_numbered {
+            let room = LINE_BYTES - self.first_bytes.len();
+            let held = &bytes[..room.min(bytes.len())];
+            let _ = self.first_bytes.try_extend_from_slice(held);
+        }
+    }
+
+    /// Counts a line that was read.
+    pub fn pass_line(&mut self)
+        ensures others { self.new ≡ record self.old { lines = one_more_line self.old.lines; is_prompting = false; first_bytes = self.new.first_bytes } }
+        ensures unread { self.new.first_bytes.items ≡ [] }
+    {
+        self.lines = self.lines.saturating_add(1);
+        self.is_prompting = false;
+        self.first_bytes.clear();
+    }
+
+    /// Notes that the script was read to its end, by which the session is left. Behind a prompt it
+    /// ends the line.
+    pub fn leave(&mut self)
+        ensures lent { self.new.output.writer.ghost_name ≡ self.old.output.writer.ghost_name }
+        ensures others { self.new ≡ record self.old { is_left = true; output = self.new.output } }
+        ensures ended { WritesEach (account_at W.contents self.old.output) (account_at W.contents self.new.output) (lines_if self.old.is_prompting (codes "\n")) }
+    {
+        self.is_left = true;
+        if self.is_prompting {
+            let _ = self.output.write(b"\n");
+        }
+    }
+
+    /// Whether it may write something about a line of this status.
+    pub fn may_say(&self, status: &Status) -> bool
+        ensures { result ≡ (self.now.is_typed || (self.now.is_numbered && not (is_accepted status.now))) }
+    {
+        self.is_numbered && !status.is_accepted() || self.is_typed
     }
 
     /// The beginning of the explanation of a line, if lines are named by their numbers. Of a line
     /// that is too long it has the first bytes.
     fn start_of(&self, line: &HeldLine) -> Option<Vec<u8>>
         ensures { IfSome result (λ start. (self.now.is_numbered ≡ true)
-            × ((raw : List ℕ) → HoldsText line.now raw → start.items ≡ line_start self.now.lines (shown_raw_text raw self.now.first_bytes.items))) }
+            × ((raw : List ℕ) → HoldsText line.now raw → start.items ≡ line_start (one_more_line self.now.lines) (shown_raw_text raw self.now.first_bytes.items))) }
     {
         if !self.is_numbered {
             return None;
         }
         let text = text_of(line, self.first_bytes.as_slice());
-        line_start(self.alloc, self.lines, text).ok()
+        line_start(self.alloc, self.lines.saturating_add(1), text).ok()
     }
 
     /// Ends the session: if its image is not the one that a file has, it says so, and keeps the
@@ -224,7 +375,7 @@ impl<'w, W: Write, H: Host> Advisor<'w, W, H> {
     pub fn end_with(&mut self, home: Option<&str>, session: &Session)
         ensures lent { self.new.output.writer.ghost_name ≡ self.old.output.writer.ghost_name }
         ensures advised { is_unsaved self.old.kept (present_image session.now) ≡ true → (line : List ℕ)
-            × ((line ≡ unsaved_line) ⊎ ((self.old.is_left ≡ true) × IsKeptUnder (H.state self.old.host) (option_copied home.entry) session.now line (H.state self.new.host)))
+            × (((line ≡ unsaved_line) × ((H.state self.new.host).files ≡ (H.state self.old.host).files)) ⊎ ((self.old.is_left ≡ true) × IsKeptUnder (H.state self.old.host) (option_copied home.entry) session.now line (H.state self.new.host)))
             × Writes (account_at W.contents self.old.output) (account_at W.contents self.new.output) line }
         ensures silent { is_unsaved self.old.kept (present_image session.now) ≡ false → self.new ≡ self.old }
     {
@@ -239,31 +390,15 @@ impl<'w, W: Write, H: Host> Advisor<'w, W, H> {
         let _ = self.output.write(bytes_of(&kept, UNSAVED));
     }
 
-    /// Says what else there is to say about a line that left this image, if there is memory.
-    pub fn explain(&mut self, line: &HeldLine, status: &Status, image: &Image)
-        ensures lent { self.new.output.writer.ghost_name ≡ self.old.output.writer.ghost_name }
-        ensures explained { (raw : List ℕ) → HoldsText line.now raw → (said : List ℕ) × MayRemark raw status.now image.now self.old.files said
-            × Writes (account_at W.contents self.old.output) (account_at W.contents self.new.output) said }
-        ensures files { self.new.files ≡ file_count image.now }
-        ensures left { self.new.is_left ≡ self.old.is_left }
-    {
-        let text = text_of(line, b"");
-        let parts = LineParts::of(line);
-        let nothing = Vec::new(self.alloc);
-        let said = remark(self.alloc, text, &parts, status, image, self.files).unwrap_or(nothing);
-        let _ = self.output.write(said.as_slice());
-        self.files = file_count(image);
-    }
-
     /// Follows a session along an accepted line: its changes, of which it says which one was undone
     /// or redone, and its end.
-    pub fn follow(&mut self, line: &HeldLine, session: &Session)
+    fn follow_change(&mut self, line: &HeldLine, session: &Session)
         ensures lent { self.new.output.writer.ghost_name ≡ self.old.output.writer.ghost_name }
-        ensures done { self.new.done ≡ session.now.cursor }
-        ensures undone { (raw : List ℕ) → HoldsText line.now raw → command_of raw ≡ Some Undo
-            → Writes (account_at W.contents self.old.output) (account_at W.contents self.new.output) (undone_line (known_line self.old.past session.now.cursor)) }
-        ensures redone { (raw : List ℕ) → HoldsText line.now raw → command_of raw ≡ Some Redo
-            → Writes (account_at W.contents self.old.output) (account_at W.contents self.new.output) (redone_line (known_line self.old.past self.old.done)) }
+        ensures others { self.new ≡ record self.old { output = self.new.output; done = session.now.cursor; past = self.new.past; is_left = self.new.is_left } }
+        ensures named { (raw : List ℕ) → HoldsText line.now raw → WritesEach (account_at W.contents self.old.output) (account_at W.contents self.new.output)
+            (named_changes true (command_of raw) (known_line self.old.past session.now.cursor) (known_line self.old.past self.old.done)) }
+        ensures past { (raw : List ℕ) (other : ℕ) → HoldsText line.now raw → (known_line self.new.past other ≡ known_line self.old.past other)
+            ⊎ IsKnownAfter self.old.past self.old.done (shown_raw_line (shown_raw_text raw [])) other (known_line self.new.past other) }
         ensures left { (raw : List ℕ) → HoldsText line.now raw → command_of raw ≡ Some Quit → self.new.is_left ≡ true }
         ensures stays { (raw : List ℕ) → HoldsText line.now raw → command_of raw ≢ Some Quit → self.new.is_left ≡ self.old.is_left }
     {
@@ -338,45 +473,23 @@ impl<'w, W: Write, H: Host> Observer for Advisor<'w, W, H> {
     }
 
     fn take(&mut self, bytes: &[u8]) {
-        if self.is_numbered {
-            self.hold(bytes);
-        }
+        self.hold(bytes);
     }
 
     fn reach_end(&mut self) {
-        self.is_left = true;
-        if self.is_prompting {
-            let _ = self.output.write(b"\n");
-        }
+        self.leave();
     }
 
     fn skip(&mut self) {
-        self.lines = self.lines.saturating_add(1);
-        self.is_prompting = false;
-        self.first_bytes.clear();
+        self.pass_line();
     }
 
     fn needs_delivery(&self, status: &Status) -> bool {
-        self.is_typed || self.is_numbered && !status.is_accepted()
+        self.may_say(status)
     }
 
     fn observe(&mut self, home: Option<&str>, line: &HeldLine, status: &Status, session: &Session) {
-        self.lines = self.lines.saturating_add(1);
-        self.is_prompting = false;
-        let asks = self.is_typed && asks_for_help(line, status);
-        if self.is_numbered || self.is_typed && !asks {
-            self.advise(home, line, status, session.image());
-        }
-        if asks {
-            let _ = self.output.write(ROWS);
-        }
-        if self.is_typed && (status.is_accepted() || !self.is_numbered) {
-            self.explain(line, status, session.image());
-        }
-        if self.is_typed && status.is_accepted() {
-            self.follow(line, session);
-        }
-        self.first_bytes.clear();
+        self.observe_with(home, line, status, session);
     }
 
     fn end(&mut self, home: Option<&str>, session: &Session) {

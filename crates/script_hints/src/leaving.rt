@@ -1,5 +1,5 @@
 //! What happens to changes that are not saved when a session is left.
-ghost use Rattle.std.specs.Prelude.{◌≡◌, IfOk, IfSome, option_copied};
+ghost use Rattle.std.specs.Prelude.{◌≡◌, IfNone, IfOk, IfSome, option_copied};
 ghost use Rattle.script_hints.specs.Leaving.{IsKeptUnder, kept_line, session_name};
 
 use d64_undo::Session;
@@ -14,27 +14,17 @@ pub(crate) fn keep_session<H: Host>(
     home: Option<&str>,
     session: &Session,
 ) -> Option<Vec<u8>>
-    ensures { IfSome result (λ line. IsKeptUnder (H.state host.old) (option_copied home.entry) session.now line.items (H.state host.new)) }
+    ensures kept { IfSome result (λ line. IsKeptUnder (H.state host.old) (option_copied home.entry) session.now line.items (H.state host.new)) }
+    ensures unkept { IfNone result ((H.state host.new).files ≡ (H.state host.old).files) }
 {
-    let Some(image) = home else {
-        return None;
-    };
-    let Ok(name) = session_name(alloc, image) else {
-        return None;
-    };
+    let name = session_name(alloc, home?).ok()?;
     if host.is_there(name.as_str()) {
         return None;
     }
-    let Ok(line) = kept_line(alloc, name.as_bytes()) else {
-        return None;
-    };
-    let Ok(file) = session.keep(alloc) else {
-        return None;
-    };
-    match host.store(alloc, name.as_str(), file.as_slice()) {
-        Ok(()) => Some(line),
-        Err(_) => None,
-    }
+    let line = kept_line(alloc, name.as_bytes()).ok()?;
+    let file = session.keep(alloc).ok()?;
+    host.store(alloc, name.as_str(), file.as_slice()).ok()?;
+    Some(line)
 }
 
 /// The name of an image with `.session` added.

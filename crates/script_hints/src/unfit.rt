@@ -50,6 +50,7 @@ fn look_of(bytes: &[u8]) -> &'static [u8]
 {
     match guess_of(bytes) {
         Some(guess) => guess_text(guess),
+        None if bytes.starts_with(b"D64S") => b"a session file, which d64sh shell --resume takes",
         None => match bytes.len() {
             175_531 | 197_376 => b"an image with error bytes",
             _ => b"not a disk image",

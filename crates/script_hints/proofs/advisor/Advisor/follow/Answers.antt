@@ -1,9 +1,19 @@
+use Rattle.std.proofs.Common.{◌≡◌, rules, sym, ◌∙◌}
+use Rattle.script_hints.proofs.Saying.{unwritten}
 use Rattle.script_hints.proofs.advisor.Advisor.follow.Goals as goal
 
--- the change that was undone is named
-pub returns-in-Some-Undo-clause-undone : goal.returns-in-Some-Undo-clause-undone
-returns-in-Some-Undo-clause-undone g c raw says is = rw c.done-self.ensures at (rw c.known_line-undone.ensures at c.write_change.ensures.either)
+pub returns-then-is_followed-clause-past : goal.returns-then-is_followed-clause-past
+returns-then-is_followed-clause-past g c raw other says = rw c.keep.ensures.others at (c.follow_change.ensures.past raw other says)
 
--- the change that was redone is named
-pub returns-in-Some-Redo-clause-redone : goal.returns-in-Some-Redo-clause-redone
-returns-in-Some-Redo-clause-redone g c raw says is = rw c.known_line-redone.ensures at c.write_change-in-Some-Redo.ensures.either
+pub returns-then-is_followed-clause-kept : goal.returns-then-is_followed-clause-kept
+returns-then-is_followed-clause-kept g c raw says followed =
+    let kept = rw c.image.ensures.present at (c.keep.ensures.kept raw says) in
+    let same : c.follow_change.new.self.kept ≡ c.keep.new.self.kept = search rules in
+    (kept.0, kept.1, same ∙ kept.2)
+
+pub returns-then-is_followed-clause-named : goal.returns-then-is_followed-clause-named
+returns-then-is_followed-clause-named g c raw says =
+    rw (sym c.is_followed.ensures ∙ c.if-is_followed.true) (rw c.keep.ensures.others at (c.follow_change.ensures.named raw says))
+
+pub returns-else-is_followed-clause-named : goal.returns-else-is_followed-clause-named
+returns-else-is_followed-clause-named g c raw says = rw (sym c.is_followed.ensures ∙ c.if-is_followed.false) (unwritten _)
