@@ -1,4 +1,4 @@
-# d64sh: `make run` runs the main job and `make test` all tests, both without proofs where nothing is built yet; `make` proves and builds,
+# d64sh: `make run` runs the main job, without proofs if nothing is built yet, and `make test` all tests, always without; `make` proves and builds,
 # `make check` is the gate, `make quick` checks what differs since the gate was green, `make wrong-bodies` tries all wrong bodies, `make bench` measures;
 # `make install` and `make uninstall` put it below PREFIX and take it away again; `make dist` packs what others install.
 PREFIX ?= /usr/local
@@ -46,7 +46,7 @@ wrong-bodies:
 bench: all
 	@bench/measure $(PROGRAM)
 
-# needs the toolchain only where the program has to be built first
+# needs the toolchain only if the program has to be built first
 install:
 	@$(IS_BUILT) || $(MAKE) --no-print-directory all
 	@install -D -m 755 $(PROGRAM) "$$DESTDIR$$PREFIX/bin/d64sh"

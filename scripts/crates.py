@@ -110,7 +110,7 @@ def in_order(crates, wanted, call):
 
 
 def link_or_copy(source, target):
-    """A file under another name, or a copy of it where that cannot be."""
+    """A file under another name, or a copy of it if that cannot be."""
     try:
         os.link(source, target)
     except OSError:
