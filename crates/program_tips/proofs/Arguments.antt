@@ -1,7 +1,7 @@
 -- Lists of arguments, and of their texts.
-use Rattle.std.proofs.Common.{◌≡◌, ◌≤◌, ◌+◌, List, [], ◌∷◌, ◌++◌, map, length, Bool, true, false, not, cond, nat_lt, Some, None, refl, ap, arith}
+use Rattle.std.proofs.Common.{◌≡◌, ◌≤◌, ◌+◌, List, [], ◌∷◌, ◌++◌, map, length, Bool, true, false, not, cond, ◌||◌, nat_lt, Some, None, refl, ap, arith}
 use Rattle.std.specs.Prelude.{position, unwrap_or}
-use Rattle.std.specs.List.{flat_map, position_or_len, prefix_len}
+use Rattle.std.specs.List.{flat_map, list_any, position_or_len, prefix_len}
 use Rattle.std.proofs.lemmas.Bool.{ltb-false}
 use Rattle.std.proofs.lemmas.List.Sums.{prefix_len-le-length}
 
@@ -16,6 +16,11 @@ passed_of_text f p (x ∷ xs) = ap (λ n. cond (p (f x)) (1 + n) 0) (passed_of_t
 
 pub place_of_text : {X Y : Type 0} (f : X → Y) (p : Y → Bool) (xs : List X) → position_or_len (λ x. p (f x)) xs ≡ position_or_len p (map f xs)
 place_of_text f p xs = passed_of_text f (λ y. not (p y)) xs
+
+-- one argument passes if and only if one text does
+pub any_of_text : {X Y : Type 0} (f : X → Y) (p : Y → Bool) (xs : List X) → list_any (λ x. p (f x)) xs ≡ list_any p (map f xs)
+any_of_text f p [] = refl
+any_of_text f p (x ∷ xs) = ap (λ more. p (f x) || more) (any_of_text f p xs)
 
 -- the first place, or the length
 pub place_or_length : {X : Type 0} (test : X → Bool) (xs : List X) → unwrap_or (position test xs) (length xs) ≡ position_or_len test xs

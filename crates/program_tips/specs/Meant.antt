@@ -15,9 +15,14 @@ abbrev pub is_option : Text → Bool
 is_option [] = false
 is_option (first ∷ rest) = first == 45
 
--- an argument may be an image: it looks like a path, and is no option
-abbrev pub may_be_image : Text → Bool
-may_be_image argument = is_path_like argument && not (is_option argument)
+-- one of these arguments looks like a path
+abbrev pub has_path_like : List Text → Bool
+has_path_like arguments = list_any is_path_like arguments
+
+-- an argument may be an image that is followed by these: it is no option, and it looks like a path or
+-- none of them does
+abbrev pub may_be_image : Text → List Text → Bool
+may_be_image argument rest = not (is_option argument) && (is_path_like argument || not (has_path_like rest))
 
 -- the first of these arguments is there, and may be a command: it is no option and no path
 abbrev pub begin_with_line : List Text → Bool
@@ -38,5 +43,5 @@ image_first arguments = None
 
 -- a line after the image, which follows the names of the program and of the subcommand
 abbrev pub line_after_image : List Text → Option MeantParts
-line_after_image (program ∷ (name ∷ (image ∷ rest))) = if may_be_image image && begin_with_line rest then Some (image, rest) else None
+line_after_image (program ∷ (name ∷ (image ∷ rest))) = if may_be_image image rest && begin_with_line rest then Some (image, rest) else None
 line_after_image arguments = None

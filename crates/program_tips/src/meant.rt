@@ -1,5 +1,6 @@
 //! `Meant`: what was probably meant by arguments that are refused.
 ghost use Rattle.std.specs.Prelude.{◌≡◌, map, option_map};
+ghost use Rattle.std.specs.List.{list_any};
 ghost use Rattle.program_tips.specs.Meant.{begin_with_line, image_first, is_option, is_path_like, line_after_image, may_be_image, meant_parts};
 
 /// What was probably meant: the shell, on an image, with a line to run.
@@ -23,14 +24,14 @@ impl<'a> Meant<'a> {
         }
     }
 
-    /// Returns what is meant if a line follows the image of `shell`, without an option before it: if
-    /// an argument that looks like a path comes before one that does not, which may be a command. The
-    /// first two of the arguments are the names of the program and of the subcommand.
+    /// Returns what is meant if a line follows the image of `shell`, without an option before it. The
+    /// first two of the arguments are the names of the program and of the subcommand. If an argument
+    /// looks like a path, but the first does not, the first is probably no image.
     pub fn line_after_image(arguments: &'a [&'a str]) -> Option<Meant<'a>>
         ensures { option_map meant_parts result ≡ line_after_image (map (λ argument. argument.now) arguments.now) }
     {
         match arguments {
-            [_, _, image, rest @ ..] if may_be_image(image) && begin_with_line(rest) => {
+            [_, _, image, rest @ ..] if may_be_image(image, rest) && begin_with_line(rest) => {
                 Some(Meant { image, rest })
             }
             _ => None,
@@ -55,11 +56,19 @@ pub(crate) fn is_option(argument: &str) -> bool
     }
 }
 
-/// Whether an argument may be an image: it looks like a path, and is no option.
-fn may_be_image(argument: &str) -> bool
-    ensures { result ≡ may_be_image argument.now }
+/// Whether an argument may be an image that is followed by these arguments: it is no option, and it
+/// looks like a path or none of them does.
+fn may_be_image(argument: &str, rest: &[&str]) -> bool
+    ensures { result ≡ may_be_image argument.now (map (λ argument. argument.now) rest.now) }
 {
-    is_path_like(argument) && !is_option(argument)
+    !is_option(argument) && (is_path_like(argument) || !has_path_like(rest))
+}
+
+/// Whether one of these arguments looks like a path.
+fn has_path_like(arguments: &[&str]) -> bool
+    ensures { result ≡ list_any (λ argument. is_path_like argument.now) arguments.now }
+{
+    arguments.iter().any(|argument| is_path_like(argument))
 }
 
 /// Whether the first of these arguments is there, and may be a command: it is no option and no path.
