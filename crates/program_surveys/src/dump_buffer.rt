@@ -1,5 +1,5 @@
 //! `DumpBuffer`: buffers in which one file after another is read as a dump, and its lists are made.
-ghost use Rattle.std.specs.Prelude.{◌≡◌, if◌then◌else◌, Some, None, IfOk, OnOk, OnErr, is_some, length, replicate};
+ghost use Rattle.std.specs.Prelude.{◌≡◌, if◌then◌else◌, Some, None, OnOk, OnErr, is_some, length};
 ghost use Rattle.d64_survey.specs.Dump.{wrong_dump_length};
 ghost use Rattle.d64_g64.specs.DumpOf.{dump_of};
 
@@ -18,10 +18,8 @@ pub struct DumpBuffer {
 }
 
 impl DumpBuffer {
-    /// Returns the buffers, with a blank dump of 35 tracks.
-    pub fn new(alloc: Global) -> Result<DumpBuffer, AllocError>
-        ensures { IfOk result (λ buffer. buffer.dump ≡ record { image = replicate 683 (replicate 256 0); codes = None }) }
-    {
+    /// Returns the buffers, with a blank dump, which the first file takes the place of.
+    pub fn new(alloc: Global) -> Result<DumpBuffer, AllocError> {
         Ok(DumpBuffer {
             alloc,
             dump: Dump::from_image(alloc, Image::zeroed(alloc)?),
