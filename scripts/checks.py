@@ -1,5 +1,8 @@
-"""What the gate runs beside `rt ci`: the scripts, the pages and the programs that they are run on."""
+"""What the gate runs beside `rt ci`: the scripts, the pages and the programs that they are run on; and how those scripts read their arguments."""
+import argparse
 import glob
+import os
+import re
 import subprocess
 import sys
 import time
@@ -93,3 +96,16 @@ def usage(text, arguments):
         return 0
     print(text.strip().splitlines()[-1], file=sys.stderr)
     return 2
+
+
+def program_and_counts(text, arguments, *counts):
+    """The program that a script is run on, and the counts that may follow it, or these if they are not given. If the arguments are others, the script ends with
+    the usage that its text has, and with the whole text if --help is asked for."""
+    about, _, synopsis = text.strip().rpartition("\n\nusage: ")
+    parser = argparse.ArgumentParser(usage=synopsis, description=about, formatter_class=argparse.RawDescriptionHelpFormatter)
+    program, *names = re.findall("[A-Z]+", synopsis)
+    parser.add_argument(program, type=os.path.abspath, help=argparse.SUPPRESS)
+    for name, count in zip(names, counts, strict=True):
+        parser.add_argument(name, type=int, nargs="?", default=count, help=argparse.SUPPRESS)
+    given = vars(parser.parse_args(arguments))
+    return [given[name] for name in (program, *names)]

@@ -3,10 +3,13 @@ import concurrent.futures
 import contextlib
 import functools
 import glob
+import importlib.machinery
+import importlib.util
 import os
 import re
 import shutil
 import subprocess
+import sys
 import tempfile
 
 TOP = os.path.dirname(os.path.dirname(os.path.abspath(__file__)))
@@ -15,6 +18,16 @@ RT = os.environ.get("RT", "rt")
 MEMORY = 2_600_000_000
 # What a crate costs for being there, in lines of its own.
 LINES_OF_A_CRATE = 1_500
+
+
+def script(name):
+    """Another script of this folder, whose name has no `.py`, as a module."""
+    module = name.replace("-", "_")
+    loader = importlib.machinery.SourceFileLoader(module, os.path.join(TOP, "scripts", name))
+    made = importlib.util.module_from_spec(importlib.util.spec_from_loader(module, loader))
+    sys.modules[module] = made
+    loader.exec_module(made)
+    return made
 
 
 @functools.cache
