@@ -12,7 +12,8 @@ use Rattle.d64_files.proofs.FilledNames.{name_in-filled_field}
 use Rattle.d64_files.specs.Slot.{is_used}
 use Rattle.d64_files.specs.Writing.{empty_directory}
 use Rattle.d64_files.proofs.WrittenBytes.{length-filled_field}
-use Rattle.d64_effects.specs.Format.{directory_start, header, free_when_formatted, blank_disk, formatted_disk}
+use Rattle.d64_files.specs.Directory.{directory_start}
+use Rattle.d64_effects.specs.Format.{header, free_when_formatted, blank_disk, formatted_disk}
 use Rattle.d64_effects.specs.Laws.{AreTwoBytes, free_count_of}
 use Rattle.d64_effects.specs.View.{View, view}
 use Rattle.d64_files.specs.DiskHeader.{disk_field, disk_id}

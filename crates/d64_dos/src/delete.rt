@@ -16,13 +16,10 @@ use crate::refusal::Refusal;
 use crate::sound_disk::sound_directory;
 use arrayvec::ArrayVec;
 use d64_effects::laws::clearing_keeps_the_directory;
-use d64_files::{Directory, Entry, Pattern, SlotNo, clear_slot, matches, slot_blocks};
-use d64_image::{BLOCKS, BlockNo, BlockSet, Image, Patch};
+use d64_files::{Directory, Entry, MOST_SLOTS, Pattern, SlotNo, clear_slot, matches, slot_blocks};
+use d64_image::{BlockNo, BlockSet, Image, Patch};
 use d64_map::{free_set, put_map};
 use std::alloc::AllocError;
-
-/// How many slots a directory has at most: eight in each of its blocks.
-pub(crate) const MOST_SLOTS: usize = 8 * BLOCKS;
 
 /// The files that patterns delete.
 #[derive(Drop)]

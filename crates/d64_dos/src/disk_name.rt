@@ -1,26 +1,12 @@
 //! Giving the disk another name, and another id.
 ghost use Rattle.std.specs.Prelude.{◌≡◌, OnOk, OnErr};
 ghost use Rattle.d64_image.specs.Patch.{StillRestores};
-ghost use Rattle.d64_files.specs.Name.{filled_field};
 ghost use Rattle.d64_effects.specs.DiskName.{labelled, named_disk};
 
-use d64_files::{FILLER, ID_START, NAME_START, Name, write_at};
+use d64_files::{ID_START, NAME_START, Name, write_at};
 use d64_image::{BLOCK_BYTES, Image, Patch};
 use d64_map::map_block;
 use std::alloc::AllocError;
-
-/// How many bytes the field of the disk's name has.
-const NAME_BYTES: usize = 16;
-
-/// A name in the disk's field, filled with shifted spaces.
-fn name_field(name: &Name) -> [u8; NAME_BYTES]
-    ensures { result ≡ filled_field name.now }
-{
-    let name = name.bytes();
-    let mut field = [FILLER; NAME_BYTES];
-    field[..name.len()].copy_from_slice(name);
-    field
-}
 
 /// The map's block with another name, and another id, if one is given.
 #[tactic(auto, unfolding(d64_effects::specs::DiskName::labelled))]
@@ -28,7 +14,7 @@ fn labelled(old: &[u8; BLOCK_BYTES], name: &Name, id: Option<[u8; 2]>) -> [u8; B
     ensures { result ≡ labelled old.now name.now id }
 {
     let mut block = *old;
-    write_at(&mut block, NAME_START, &name_field(name));
+    write_at(&mut block, NAME_START, &name.field());
     match id {
         Some(id) => write_at(&mut block, ID_START, &id),
         None => {}

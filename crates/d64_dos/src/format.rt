@@ -6,12 +6,11 @@ ghost use Rattle.d64_image.specs.Patch.{StillRestores};
 ghost use Rattle.d64_effects.specs.Format.{header, free_when_formatted, blank_disk, formatted_disk};
 
 use d64_files::{
-    DIRECTORY_SECTOR, DOS_VERSION_START, FILLER, ID_START, NAME_START, Name, empty_directory,
-    write_at,
+    DIRECTORY_SECTOR, DOS_VERSION_START, FILLER, ID_START, NAME_START, Name, directory_block,
+    empty_directory, write_at,
 };
 use d64_image::{BLOCK_BYTES, BlockNo, BlockSet, Image, Patch};
 use d64_map::{DIRECTORY_TRACK, map_block, put_map};
-use d64_survey::directory_block;
 use std::alloc::AllocError;
 
 /// The beginning of the map's block: the link to the directory's first block, and the mark of the

@@ -6,11 +6,11 @@ ghost use Rattle.d64_effects.specs.Validate.{unclosed_slots, all_but, validated_
 ghost use Rattle.d64_dos.specs.FileRefusals.{validate_refusal};
 ghost use Rattle.d64_dos.specs.Refusal.{refused_by};
 
-use crate::delete::{MOST_SLOTS, clear_slots};
+use crate::delete::clear_slots;
 use crate::refusal::Refusal;
 use arrayvec::ArrayVec;
 use d64_effects::laws::clearing_keeps_the_directory;
-use d64_files::{Directory, owned};
+use d64_files::{Directory, MOST_SLOTS, owned};
 use d64_image::{BlockSet, Image, Patch};
 use d64_map::put_map;
 

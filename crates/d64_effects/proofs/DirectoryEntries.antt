@@ -18,7 +18,7 @@ use Rattle.d64_files.specs.Writing.{written_at, slot_block, slot_start, with_ent
 use Rattle.d64_files.proofs.Chains.{chain-is, is_chain, kept, distinct, within}
 use Rattle.d64_files.proofs.WrittenBytes.{length-written_at}
 use Rattle.d64_files.proofs.SlotLists.{length-slots_in, slot_at_place}
-use Rattle.d64_effects.specs.Format.{directory_start}
+use Rattle.d64_files.specs.Directory.{directory_start}
 use Rattle.d64_effects.proofs.Places.{directory_start-place}
 
 -- bytes before the part that is written over others stay

@@ -19,7 +19,7 @@ use Rattle.d64_files.specs.Writing.{written_at, with_bytes, pair_bytes, dir_last
 use Rattle.d64_files.proofs.Chains.{chain_before, chain_of_one, led_by-alike}
 use Rattle.d64_files.proofs.SlotLists.{length-cells, get_or-cells}
 use Rattle.d64_files.proofs.WrittenBytes.{length-written_at}
-use Rattle.d64_effects.specs.Format.{directory_start}
+use Rattle.d64_files.specs.Directory.{directory_start}
 use Rattle.d64_effects.proofs.DirectoryEntries.{get_or-written_within, get_or-written_past, IsBlock-written_at, length-cell, get_or-cell, Chain-directory, directory-from_Chain, directory-within, block_at}
 use Rattle.d64_effects.proofs.EmptyDisks.{IsBlock-empty_directory}
 use Rattle.d64_effects.proofs.FileChains.{leads_to, pair_small}

@@ -23,7 +23,8 @@ use Rattle.d64_map.proofs.Ranges.{range_push, count_more}
 use Rattle.d64_map.proofs.FreeBlocks.{any-below}
 use Rattle.d64_map.proofs.Maps.{length-with_map, free_blocks-with_map, counts-with_map, IsImage-with_map}
 use Rattle.d64_files.specs.Name.{IsName, filled_field}
-use Rattle.d64_effects.specs.Format.{directory_start, header, free_when_formatted, blank_disk, formatted_disk}
+use Rattle.d64_files.specs.Directory.{directory_start}
+use Rattle.d64_effects.specs.Format.{header, free_when_formatted, blank_disk, formatted_disk}
 use Rattle.d64_files.specs.Writing.{empty_directory}
 use Rattle.d64_effects.specs.Laws.{AreTwoBytes, free_count_of}
 use Rattle.d64_files.proofs.WrittenBytes.{length-filled_field}

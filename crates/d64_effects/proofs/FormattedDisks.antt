@@ -27,7 +27,8 @@ use Rattle.d64_files.specs.declared.dir_fault.DirFault.{DirFault}
 use Rattle.d64_files.specs.declared.dir_fault.DirFault.TheVariants.{WrongCounts, NoDirectory, UnknownKind, NoChain, CrossLinked, MarkedFree}
 use Rattle.d64_files.proofs.Chains.{chain_of_one, chain-is}
 use Rattle.d64_files.proofs.SlotLists.{length-cells}
-use Rattle.d64_effects.specs.Format.{directory_start, header, free_when_formatted, blank_disk, formatted_disk}
+use Rattle.d64_files.specs.Directory.{directory_start}
+use Rattle.d64_effects.specs.Format.{header, free_when_formatted, blank_disk, formatted_disk}
 use Rattle.d64_effects.specs.Laws.{AreTwoBytes}
 use Rattle.d64_effects.specs.View.{View, FileView, slot_view, view}
 use Rattle.d64_files.specs.DiskHeader.{disk_field, disk_id}

@@ -13,7 +13,7 @@ use Rattle.d64_files.specs.Writing.{first_unused, dir_last, slot_block, with_ent
 use Rattle.d64_files.specs.declared.dir_fault.DirFault.TheVariants.{NoDirectory}
 use Rattle.d64_files.proofs.Chains.{all_within}
 use Rattle.d64_files.proofs.SlotLists.{length-slots_in, slot_at_place}
-use Rattle.d64_effects.specs.Format.{directory_start}
+use Rattle.d64_files.specs.Directory.{directory_start}
 use Rattle.d64_effects.specs.Laws.{HasRoom}
 use Rattle.d64_effects.specs.View.{IsSound}
 use Rattle.d64_effects.specs.Write.{next_of_directory, grown_by, directory_grown, with_entry_in, with_new_entry}

@@ -3,7 +3,7 @@ use Rattle.std.proofs.Common.{◌≡◌, Some, arith}
 use Rattle.d64_image.specs.Block.{block_of, first_block}
 use Rattle.d64_image.proofs.Pairs.{block_of-legal}
 use Rattle.d64_map.specs.Map.{map_block}
-use Rattle.d64_effects.specs.Format.{directory_start}
+use Rattle.d64_files.specs.Directory.{directory_start}
 
 -- track 18, sector 0 is the map's block
 pub map_block-place : block_of 18 0 ≡ Some map_block

@@ -6,12 +6,9 @@ use Rattle.d64_image.specs.BlockSet.{BlockSet}
 use Rattle.d64_image.specs.declared.image.TheConstants.{BLOCK_BYTES}
 use Rattle.d64_image.specs.Image.{with_sector}
 use Rattle.d64_map.specs.Map.{map_block, all_of, with_map}
+use Rattle.d64_files.specs.Directory.{directory_start}
 use Rattle.d64_files.specs.Name.{filled_field}
 use Rattle.d64_files.specs.Writing.{empty_directory}
-
--- track 18, sector 1
-abbrev pub directory_start : ℕ
-directory_start = 358
 
 -- the map's block before the map is written: the directory's start, format `A`, name, id, DOS
 -- version `2A`

@@ -8,7 +8,8 @@ use Rattle.d64_files.specs.Name.{filled_field, name_in}
 use Rattle.d64_files.specs.Slot.{field_of, size_of}
 use Rattle.d64_effects.specs.Clear.{with_freed}
 use Rattle.d64_effects.specs.Delete.{is_deleted_by}
-use Rattle.d64_effects.specs.Format.{directory_start, free_when_formatted}
+use Rattle.d64_files.specs.Directory.{directory_start}
+use Rattle.d64_effects.specs.Format.{free_when_formatted}
 use Rattle.d64_effects.specs.Undelete.{cell_at, chain_left}
 use Rattle.d64_effects.specs.View.{View, FileView}
 use Rattle.d64_effects.specs.Validate.{all_but}

@@ -12,6 +12,10 @@ use Rattle.d64_files.specs.Slot.{EntryView, cells, HasKind, is_used, name_of}
 use Rattle.d64_files.specs.declared.dir_fault.DirFault.{DirFault}
 use Rattle.d64_files.specs.declared.dir_fault.DirFault.TheVariants.{WrongCounts, NoDirectory, UnknownKind, NoChain, CrossLinked, MarkedFree}
 
+-- the directory's first block: track 18, sector 1
+abbrev pub directory_start : ℕ
+directory_start = 358
+
 -- its blocks: the chain from track 18, sector 1
 abbrev pub directory : Disk → Blocks
 directory image = chain_from image 18 1

@@ -1,7 +1,7 @@
 //! The directory of an image: the blocks of its chain.
 ghost use Rattle.std.specs.Prelude.{◌≡◌, ◌≢◌, ◌*◌, ◌%◌, ◌<◌, ◌≤◌, ◌↔◌, [], length, IfOk, IsSome, MatchResult, unwrap_or};
 ghost use Rattle.d64_image.specs.declared.block.TheConstants.{BLOCKS};
-ghost use Rattle.d64_files.specs.Directory.{directory, slots, entries, AllHold, IsFirstFault};
+ghost use Rattle.d64_files.specs.Directory.{directory_start, directory, slots, entries, AllHold, IsFirstFault};
 ghost use Rattle.d64_files.specs.Writing.{dir_last, slot_block};
 
 use crate::block_list::BlockList;
@@ -15,6 +15,13 @@ use std::marker::Model;
 
 /// The sector of the directory's first block on its track.
 pub const DIRECTORY_SECTOR: u8 = 1;
+
+/// The directory's first block: track 18, sector 1.
+pub fn directory_block() -> BlockNo
+    ensures { result ≡ directory_start }
+{
+    BlockNo::of(DIRECTORY_TRACK, DIRECTORY_SECTOR).unwrap()
+}
 
 /// The directory of an image: the blocks of its chain, walked once. Each of its slots has a kind of
 /// file.

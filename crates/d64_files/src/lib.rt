@@ -31,7 +31,7 @@ pub use block_list::BlockList;
 pub use chain::block_in;
 pub use clearing::{clear_slot, set_name, set_type};
 pub use dir_fault::DirFault;
-pub use directory_blocks::{DIRECTORY_SECTOR, Directory};
+pub use directory_blocks::{DIRECTORY_SECTOR, Directory, directory_block};
 pub use disk_header::{
     DOS_VERSION_START, ID_START, NAME_START, disk_dos, disk_id, disk_name, header_of,
 };
@@ -43,7 +43,7 @@ pub use lookup::find;
 pub use name::{FILLER, Name, name_in};
 pub use pattern::{Pattern, matches};
 pub use reading::{ReadFault, content, entry_content};
-pub use slots::{SLOTS_PER_BLOCK, Slots, entry_in};
+pub use slots::{MOST_SLOTS, SLOTS_PER_BLOCK, Slots, entry_in};
 pub use soundness::{check, checked, owned, slot_blocks};
 pub use vacancy::{dir_last, first_empty, is_taken};
 pub use writing::{

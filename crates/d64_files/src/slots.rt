@@ -11,11 +11,14 @@ use crate::block_list::BlockList;
 use crate::dir_fault::DirFault;
 use crate::directory_blocks::Directory;
 use crate::entry::{Entry, LAST_KIND, SLOT_BYTES, SlotNo};
-use d64_image::{BLOCK_BYTES, BlockNo, Image};
+use d64_image::{BLOCK_BYTES, BLOCKS, BlockNo, Image};
 use std::marker::Model;
 
 /// How many slots a block of the directory has.
 pub const SLOTS_PER_BLOCK: usize = BLOCK_BYTES / SLOT_BYTES;
+
+/// How many slots a directory has at most.
+pub const MOST_SLOTS: usize = SLOTS_PER_BLOCK * BLOCKS;
 
 /// The slots of a directory that are left of a walk along its blocks, in their order.
 #[derive(Drop)]

@@ -13,14 +13,11 @@ use crate::fault::G64Fault;
 use crate::file::is_g64;
 use crate::header::{DIRECTORY_TRACK, Id, disk_id};
 use crate::track::{TrackLists, read_track};
-use d64_image::{BLOCK_BYTES, BLOCKS, BlockNo, TrackNo};
+use d64_image::{BLOCK_BYTES, BLOCKS, BLOCKS_OF_35, BlockNo, TrackNo};
 use std::alloc::{AllocError, Global};
 
 /// How many sectors a track has at most.
 const MOST_SECTORS: u8 = 21;
-
-/// How many blocks a disk of 35 tracks has.
-const BLOCKS_OF_35: usize = 683;
 
 /// How many blocks the tracks 36 to 40 have.
 const BLOCKS_BEYOND: usize = 85;

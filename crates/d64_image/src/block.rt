@@ -11,6 +11,9 @@ use std::marker::Model;
 /// How many blocks an image has at most: those of 40 tracks.
 pub const BLOCKS: usize = 768;
 
+/// How many blocks an image of 35 tracks has.
+pub const BLOCKS_OF_35: usize = 683;
+
 /// Neighbouring tracks with the same number of sectors.
 #[derive(Clone, Copy)]
 struct Zone {

@@ -7,7 +7,7 @@ ghost use Rattle.d64_image.specs.Disk.{AreBytes};
 ghost use Rattle.d64_image.specs.Image.{IsBlock, IsImage, IsSize, blocks_of, bytes_of, is_image_length, sector_at, tracks_of};
 ghost use Rattle.d64_image.specs.ImageFault.{wrong_length};
 
-use crate::block::{BLOCKS, BlockNo, Blocks};
+use crate::block::{BLOCKS, BLOCKS_OF_35, BlockNo, Blocks};
 use crate::block_bytes::same_bytes;
 use crate::track::{TRACKS, Tracks};
 use std::alloc::{AllocError, AllocFailed, Global};
@@ -16,9 +16,6 @@ use thiserror::Error;
 
 /// How many bytes a block has.
 pub const BLOCK_BYTES: usize = 256;
-
-/// How many blocks an image of 35 tracks has.
-const BLOCKS_OF_35: usize = 683;
 
 /// How many tracks the smaller image has.
 const FEWER_TRACKS: u8 = 35;

@@ -15,7 +15,7 @@ mod patch;
 mod patch_list;
 mod track;
 
-pub use block::{BLOCKS, BlockNo, Blocks};
+pub use block::{BLOCKS, BLOCKS_OF_35, BlockNo, Blocks};
 pub use block_set::BlockSet;
 pub use image::{BLOCK_BYTES, Image, ImageFault, blocks_of, known_bytes};
 pub use patch::Patch;

@@ -8,12 +8,9 @@ ghost use Rattle.d64_merge.specs.Merged.{has_40_tracks, merged_tracks, merged_bl
 
 use crate::choice::{Choice, choose, has_codes};
 use crate::outcome::{BlockOutcome, Preference, dump_at};
-use d64_image::{BLOCKS, BlockNo, Image};
+use d64_image::{BLOCKS, BLOCKS_OF_35, BlockNo, Image};
 use d64_survey::Dump;
 use std::alloc::{AllocError, Global};
-
-/// How many blocks a disk of 35 tracks has.
-const BLOCKS_OF_35: usize = 683;
 
 /// Whether a dump has 40 tracks.
 fn has_40_tracks(dump: &Dump) -> bool

@@ -8,17 +8,14 @@ ghost use Rattle.d64_scratched.specs.Scratched.{is_scratched, is_claimed_below, 
 use crate::loss::Loss;
 use crate::lowest::LowestSlots;
 use arrayvec::ArrayVec;
-use d64_files::{BlockList, Entry};
-use d64_image::{BLOCKS, BlockNo, BlockSet};
+use d64_files::{BlockList, Entry, MOST_SLOTS};
+use d64_image::{BlockNo, BlockSet};
 use d64_map::free_set;
 use d64_survey::{Survey, WayEnd, any_unreadable, walk};
 use std::marker::Model;
 
 /// How many reasons there are.
 pub const LOSSES: usize = 6;
-
-/// How many slots a directory has at most: eight in each of its blocks.
-const MOST_SLOTS: usize = 8 * BLOCKS;
 
 /// Whether a slot is scratched: its type byte is 0, and the track of its first block isn't.
 pub fn is_scratched(entry: &Entry) -> bool

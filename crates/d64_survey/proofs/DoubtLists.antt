@@ -1,7 +1,8 @@
 -- What makes an image doubtful, doubt after doubt.
 use Rattle.std.proofs.Common.{◌≡◌, ℕ, ◌||◌, Bool, List, [], ◌++◌, ap, ◌∙◌, append_assoc}
 use Rattle.d64_map.specs.Map.{map_block}
-use Rattle.d64_survey.specs.Doubts.{has_other_version, directory_block, is_blank, has_strays, has_filler, where_doubted, doubts}
+use Rattle.d64_files.specs.Directory.{directory_start}
+use Rattle.d64_survey.specs.Doubts.{has_other_version, is_blank, has_strays, has_filler, where_doubted, doubts}
 use Rattle.d64_survey.specs.declared.doubt.Doubt.{Doubt}
 use Rattle.d64_survey.specs.declared.doubt.Doubt.TheVariants.{Version, Blank, Unowned, Filler}
 
@@ -11,7 +12,7 @@ listed a b c d = where_doubted a Version ++ (where_doubted b Blank ++ (where_dou
 
 -- the map's block is blank, or the directory's first one
 abbrev pub are_blank : List (List ℕ) → Bool
-are_blank image = is_blank image map_block || is_blank image directory_block
+are_blank image = is_blank image map_block || is_blank image directory_start
 
 -- a list and what comes after it, before the rest
 then_rest : (list longer more rest : List Doubt) → longer ≡ list ++ more → longer ++ rest ≡ list ++ (more ++ rest)

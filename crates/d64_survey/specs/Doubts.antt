@@ -5,6 +5,7 @@ use Rattle.std.specs.Cmp.Lexicographic.{pointwise}
 use Rattle.d64_image.specs.Disk.{Disk, Bytes}
 use Rattle.d64_image.specs.Image.{sector_at}
 use Rattle.d64_map.specs.Map.{map_block}
+use Rattle.d64_files.specs.Directory.{directory_start}
 use Rattle.d64_survey.specs.Owners.{is_unowned}
 use Rattle.d64_survey.specs.declared.doubt.Doubt.{Doubt}
 use Rattle.d64_survey.specs.declared.doubt.Doubt.TheVariants.{Version, Blank, Unowned, Filler}
@@ -12,10 +13,6 @@ use Rattle.d64_survey.specs.declared.doubt.Doubt.TheVariants.{Version, Blank, Un
 -- whether byte $02 of the map's block isn't $41, by which a 1541 knows its own disks
 abbrev pub has_other_version : Disk → Bool
 has_other_version image = not (slice_index (sector_at image map_block) 0x02 == 0x41)
-
--- the directory's first block: track 18, sector 1
-abbrev pub directory_block : ℕ
-directory_block = 358
 
 -- whether the bytes of a block are all equal
 unfoldable pub is_blank : Disk → ℕ → Bool
@@ -53,6 +50,6 @@ where_doubted there doubt = if there then doubt ∷ [] else []
 unfoldable pub doubts : Disk → List Doubt
 doubts image =
     where_doubted (has_other_version image) Version
-    ++ (where_doubted (is_blank image map_block || is_blank image directory_block) Blank
+    ++ (where_doubted (is_blank image map_block || is_blank image directory_start) Blank
     ++ (where_doubted (has_strays image) Unowned
     ++ where_doubted (has_filler image) Filler))

@@ -13,7 +13,7 @@ use Rattle.d64_survey.specs.declared.owner.Part.TheVariants.{Data, Side}
 use Rattle.d64_survey.specs.declared.flaw.Flaw.{Flaw}
 use Rattle.d64_survey.specs.declared.flaw.Flaw.TheVariants.{Unclosed, Kindless, Broken, Shared, Unreadable, Missized, Geos}
 
--- whether an entry marks a deleted file
+-- whether the kind of an entry has the number of DEL
 abbrev pub is_del_entry : Bytes → Bool
 is_del_entry cell = kind_number cell == 0
 
@@ -48,7 +48,7 @@ is_missized image cell =
 abbrev pub where_flawed : Bool → Flaw → List Flaw
 where_flawed there flaw = if there then flaw ∷ [] else []
 
--- why a file is not whole, in order; an entry that marks a deleted file isn't looked at
+-- why a file is not whole, in order; a DEL entry isn't looked at
 unfoldable pub why : Disk → Option Bytes → Bytes → List Flaw
 why image codes cell =
     if is_del_entry cell then [] else
@@ -66,8 +66,7 @@ is_whole_with [] = Some true
 is_whole_with (Geos ∷ flaws) = None
 is_whole_with (flaw ∷ flaws) = Some false
 
--- whether the file of a slot with these flaws is whole; not known for an entry that marks a deleted
--- file
+-- whether the file of a slot with these flaws is whole; not known for a DEL entry
 abbrev pub wholeness_by : Bytes → List Flaw → Option Bool
 wholeness_by cell flaws = if is_del_entry cell then None else is_whole_with flaws
 

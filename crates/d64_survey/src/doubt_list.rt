@@ -1,14 +1,15 @@
 //! The doubts of an image.
 ghost use Rattle.std.specs.Prelude.{◌≡◌, ◌+◌, ◌<◌, ◌≤◌, ◌++◌, ◌||◌, length};
 ghost use Rattle.d64_map.specs.Map.{map_block as map_block_of};
-ghost use Rattle.d64_survey.specs.Doubts.{has_other_version, directory_block, is_blank, is_for_geos, has_strays, has_filler, where_doubted, doubts};
+ghost use Rattle.d64_files.specs.Directory.{directory_start};
+ghost use Rattle.d64_survey.specs.Doubts.{has_other_version, is_blank, is_for_geos, has_strays, has_filler, where_doubted, doubts};
 
 use crate::doubt::Doubt;
 use crate::survey::Survey;
 use arrayvec::ArrayVec;
-use d64_files::DIRECTORY_SECTOR;
-use d64_image::{BLOCK_BYTES, BlockNo, Image};
-use d64_map::{DIRECTORY_TRACK, free_set, map_block};
+use d64_files::directory_block;
+use d64_image::{BLOCK_BYTES, BLOCKS_OF_35, BlockNo, Image};
+use d64_map::{free_set, map_block};
 
 /// How many doubts there are.
 pub const DOUBTS: usize = 4;
@@ -17,22 +18,12 @@ pub const DOUBTS: usize = 4;
 /// "Disk format").
 const VERSION: u8 = 0x41;
 
-/// How many blocks tracks 1 to 35 have.
-const BLOCKS_OF_35: usize = 683;
-
 /// What copiers write in place of a block that they can't read.
 const FILLER: [u8; BLOCK_BYTES] =
     *b"-=[BAD SECTOR]=--=[BAD SECTOR]=--=[BAD SECTOR]=--=[BAD SECTOR]=-\
     -=[BAD SECTOR]=--=[BAD SECTOR]=--=[BAD SECTOR]=--=[BAD SECTOR]=-\
     -=[BAD SECTOR]=--=[BAD SECTOR]=--=[BAD SECTOR]=--=[BAD SECTOR]=-\
     -=[BAD SECTOR]=--=[BAD SECTOR]=--=[BAD SECTOR]=--=[BAD SECTOR]=-";
-
-/// The directory's first block: track 18, sector 1.
-pub fn directory_block() -> BlockNo
-    ensures { result ≡ directory_block }
-{
-    BlockNo::of(DIRECTORY_TRACK, DIRECTORY_SECTOR).unwrap()
-}
 
 /// Whether the map's block doesn't have the version byte of a 1541's disk.
 fn has_other_version(image: &Image) -> bool
@@ -54,7 +45,7 @@ pub fn is_blank(image: &Image, block: BlockNo) -> bool
 
 /// Whether the map's block or the directory's first one is blank.
 fn is_directory_blank(image: &Image) -> bool
-    ensures { result ≡ (is_blank image.now map_block_of || is_blank image.now directory_block) }
+    ensures { result ≡ (is_blank image.now map_block_of || is_blank image.now directory_start) }
 {
     image.known_image();
     is_blank(image, map_block()) || is_blank(image, directory_block())

@@ -31,7 +31,7 @@ pub mod way_laws;
 mod way_table;
 
 pub use doubt::Doubt;
-pub use doubt_list::{DOUBTS, directory_block, is_blank};
+pub use doubt_list::{DOUBTS, is_blank};
 pub use dump::{Dump, DumpFault, drive_status, image_bytes, is_read_error};
 pub use fault::{Fault, LastBlock};
 pub use flaw::Flaw;

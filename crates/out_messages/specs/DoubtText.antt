@@ -3,7 +3,8 @@ use Rattle.std.specs.Prelude.{ℕ, ◌==◌, Bool, if◌then◌else◌, List, []
 use Rattle.std.specs.List.{flat_map}
 use Rattle.d64_image.specs.Disk.{Disk}
 use Rattle.d64_map.specs.Map.{map_block}
-use Rattle.d64_survey.specs.Doubts.{directory_block, is_blank}
+use Rattle.d64_files.specs.Directory.{directory_start}
+use Rattle.d64_survey.specs.Doubts.{is_blank}
 use Rattle.d64_survey.specs.Owners.{unowned_count}
 use Rattle.d64_survey.specs.declared.doubt.Doubt.{Doubt}
 use Rattle.d64_survey.specs.declared.doubt.Doubt.TheVariants.{Version, Blank, Unowned, Filler}
@@ -27,7 +28,7 @@ blank_text map directory =
 -- a doubt
 unfoldable pub doubt_text : Disk → Doubt → List ℕ
 doubt_text image Version = codes "the version byte is not that of a 1541 disk"
-doubt_text image Blank = blank_text (is_blank image map_block) (is_blank image directory_block)
+doubt_text image Blank = blank_text (is_blank image map_block) (is_blank image directory_start)
 doubt_text image Unowned = unowned_text (unowned_count image)
 doubt_text image Filler = codes "a block is filled with -=[BAD SECTOR]=-, which copy programs write for a block that they could not read"
 

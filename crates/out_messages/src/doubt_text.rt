@@ -2,13 +2,15 @@
 ghost use Rattle.std.specs.Prelude.{◌≡◌, ◌++◌, OnOk};
 ghost use Rattle.std.specs.List.{flat_map};
 ghost use Rattle.d64_map.specs.Map.{map_block as map_block_of};
-ghost use Rattle.d64_survey.specs.Doubts.{directory_block as directory_block_of, is_blank as is_blank_in, doubts};
+ghost use Rattle.d64_files.specs.Directory.{directory_start};
+ghost use Rattle.d64_survey.specs.Doubts.{is_blank as is_blank_in, doubts};
 ghost use Rattle.out_messages.specs.DoubtText.{unowned_words as unowned_words_of, unowned_text, blank_text as blank_text_of, doubt_text, next_doubt, doubtful_words as doubtful_words_of, doubts_text};
 
 use crate::words::push_count;
+use d64_files::directory_block;
 use d64_image::Image;
 use d64_map::map_block;
-use d64_survey::{Doubt, Inspection, directory_block, is_blank};
+use d64_survey::{Doubt, Inspection, is_blank};
 use std::alloc::AllocError;
 
 /// Returns the text for `count` blocks that nothing owns.
@@ -33,7 +35,7 @@ pub fn push_unowned_text(out: &mut Vec<u8>, count: usize) -> Result<(), AllocErr
 
 /// Returns which of the first blocks of map and directory is blank; one of them is.
 fn blank_text(image: &Image) -> &'static [u8]
-    ensures { result.now ≡ blank_text_of (is_blank_in image.now map_block_of) (is_blank_in image.now directory_block_of) }
+    ensures { result.now ≡ blank_text_of (is_blank_in image.now map_block_of) (is_blank_in image.now directory_start) }
 {
     image.known_image();
     if !is_blank(image, map_block()) {

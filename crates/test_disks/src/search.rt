@@ -1,11 +1,8 @@
 //! The order in which free blocks are searched.
 
-use d64_image::{BLOCKS, BlockNo, BlockSet};
+use d64_image::{BLOCKS, BLOCKS_OF_35, BlockNo, BlockSet};
 use d64_map::{pick_dir, pick_first, pick_next};
 use std::process::Abort;
-
-/// How many blocks a disk of 35 tracks has.
-const BLOCKS_OF_35: usize = 683;
 
 /// Returns the blocks from one place up to another.
 fn blocks_between(start: usize, end: usize) -> BlockSet {

@@ -1,10 +1,10 @@
 use Rattle.std.proofs.Common.{◌≡◌, Some, IsSome, sym, ◌∙◌, subst, arith, rules}
 use Rattle.d64_image.specs.Block.{block_of, first_block}
 use Rattle.d64_image.proofs.Pairs.{block_of-legal}
-use Rattle.d64_survey.specs.Doubts.{directory_block}
-use Rattle.d64_survey.proofs.doubt_list.directory_block.Goals as goal
+use Rattle.d64_files.specs.Directory.{directory_start}
+use Rattle.d64_files.proofs.directory_blocks.directory_block.Goals as goal
 
-place : block_of 18 1 ≡ Some directory_block
+place : block_of 18 1 ≡ Some directory_start
 unfolding first_block
 place = block_of-legal 18 1 (omega arith) (omega arith) (omega arith)
 
