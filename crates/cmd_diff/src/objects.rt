@@ -1,24 +1,18 @@
 //! What is printed of a change as JSON.
 ghost use Rattle.std.specs.Prelude.{◌≡◌, [], ◌∷◌, ◌++◌, map, codes, option_map, IfOk};
 ghost use Rattle.json.specs.Json.{string};
-ghost use Rattle.out_json_csv.specs.Pairs.{block_field as block_text_of};
 ghost use Rattle.out_json_csv.specs.Values.{Prints, PrintsMembers, array_of, line_of};
 ghost use Rattle.cmd_diff.specs.Changes.{DiskChanged, size_members, free_members, disk_object, entry_object};
 ghost use Rattle.cmd_diff.specs.ChangeObject.{change_member, entry_value, changed_slot_members, changed_entry_members, slot_object, disk_members, block_value, blocks_member, blocks_object, change_object};
 
-use arrayvec::ArrayString;
 use d64_image::{BlockNo, Image};
 use d64_inventory::FileRow;
 use d64_map::blocks_free;
 use d64_survey::Inspection;
-use itoa::Buffer;
 use json::Writer;
 use out_files::put_file_members;
-use out_json_csv::{into_line, put_boolean, put_label, put_null, put_number, put_text};
+use out_json_csv::{into_line, pair_text, put_boolean, put_label, put_null, put_number, put_text};
 use std::alloc::AllocError;
-
-/// The most bytes of a pair's text: two numbers below 256, and a slash.
-const PAIR_LEN: usize = 7;
 
 /// Prints how many tracks the disk has, and whether there are read codes.
 fn put_size(writer: &mut Writer, all: &Inspection) -> Result<(), AllocError>
@@ -101,25 +95,13 @@ pub(crate) fn entry_line_json(
     into_line(writer, start)
 }
 
-/// Returns the text of a block's track and sector, such as `17/3`.
-fn block_text(block: BlockNo) -> ArrayString<PAIR_LEN>
-    ensures { result.bytes ≡ block_text_of block }
-{
-    let mut digits = Buffer::new();
-    let mut text = ArrayString::new();
-    text.push_str(digits.format(block.track()));
-    text.push('/');
-    text.push_str(digits.format(block.sector()));
-    text
-}
-
 /// Prints an array of blocks.
 fn put_blocks(writer: &mut Writer, blocks: &[BlockNo]) -> Result<(), AllocError>
     ensures { Prints result writer.old writer.new (array_of (map block_value blocks.now)) }
 {
     writer.begin_array()?;
     for block in blocks {
-        let text = block_text(*block);
+        let text = pair_text(block.track(), block.sector());
         writer.string(text.as_str())?;
     }
     writer.end_array()

@@ -15,7 +15,7 @@ use std::str;
 pub const UNREAD: &str = "cannot be read";
 
 /// The error of a file whose length no dump has.
-pub const WRONG_LENGTH: &str = "wrong length";
+const WRONG_LENGTH: &str = "wrong length";
 
 /// The error of a G64 whose header is cut off or of another version.
 const BAD_G64: &str = "bad G64";
@@ -88,7 +88,7 @@ pub fn unread_json(scratch: &mut Scratch, name: &[u8], out: Vec<u8>) -> Result<V
 }
 
 /// Appends the line of a file of this length, which no dump has, to a text.
-pub fn wrong_length_json(
+fn wrong_length_json(
     scratch: &mut Scratch,
     name: &[u8],
     length: usize,

@@ -8,7 +8,7 @@ ghost use Rattle.out_json_csv.specs.Rows.{truth_text as truth_text_of, host_fiel
 use crate::csv_row::CsvRow;
 use crate::hexadecimal::spell_hexadecimal;
 use crate::name::spell;
-use crate::pair_text::pair_text;
+use crate::pair::pair_text;
 use host_storage::push_shown;
 use itoa::Buffer;
 use std::alloc::AllocError;

@@ -6,7 +6,7 @@ ghost use Rattle.out_json_csv.specs.Values.{PrintsMembers, numeral};
 ghost use Rattle.out_json_csv.specs.Pairs.{pair_field};
 
 use crate::hexadecimal::{digits_are_ascii, spell_hexadecimal};
-use crate::pair_text::pair_text;
+use crate::pair::pair_text;
 use json::Writer;
 use std::alloc::AllocError;
 use std::str;

@@ -6,10 +6,10 @@ use arrayvec::ArrayString;
 use itoa::Buffer;
 
 /// The most bytes of such a text: two numbers below 256, and a slash.
-const MAX_LEN: usize = 7;
+const PAIR_LEN: usize = 7;
 
 /// Returns the text of a track and a sector, such as `17/3`.
-pub(crate) fn pair_text(track: u8, sector: u8) -> ArrayString<MAX_LEN>
+pub fn pair_text(track: u8, sector: u8) -> ArrayString<PAIR_LEN>
     ensures { result.bytes ≡ pair_field (track, sector) }
 {
     let mut digits = Buffer::new();
