@@ -11,7 +11,12 @@ use Rattle.cbm_text.specs.declared.fault.BasicFault.TheVariants.{NoNumber, Numbe
 use Rattle.cbm_text.specs.Crunching.{Crunched}
 use Rattle.cbm_text.specs.Modes.{CrunchesUpTo}
 use Rattle.cbm_text.specs.Program.{ProgramLine, Program, word, line_layout, lines_layout, address_behind}
-use Rattle.cbm_text.specs.BasicText.{IsLine, IsTextLineRead, IsTooLong, HasFault, AreLines, FaultsFirst, IsFileOf, IsFirstBasicFault, IsBasicOutOfMemory, NamesLine}
+use Rattle.petscii.specs.TextFault.{IsFirstTextFault, IsTextOutOfMemory}
+use Rattle.petscii.specs.declared.fault.TextFault.{TextFault}
+use Rattle.petscii.specs.declared.fault.TextFault.TheVariants as text_faults
+use Rattle.cbm_text.specs.TextLine.{rest_of}
+use Rattle.cbm_text.specs.LineFault.{IsFaultOfCodes, fault_of_text}
+use Rattle.cbm_text.specs.BasicText.{IsNumbered, IsLine, IsTextLineRead, IsTooLong, HasFault, AreLines, FaultsFirst, IsFileOf, IsFirstBasicFault, IsBasicOutOfMemory, NamesLine}
 
 -- what has been crunched of a text, and the raw lines that are left: what these give completes the
 -- file, and their first fault is the text's
@@ -156,13 +161,29 @@ crunched_short most bytes codes up short = it up.whole
     it (inl none) = subst (λ (w : List ℕ). Crunched bytes w) (ap (λ (w : List ℕ). codes ++ w) none ∙ append-nil codes) up.crunched
     it (inr long) = absurd (omega (arith, long, short))
 
--- the faults of such a line
-pub zero_fault : (at place most : ℕ) (text bytes codes : List ℕ) → IsTextLineRead text bytes → CrunchesUpTo most bytes codes → Contains bytes 0 → HasFault at place text (ZeroByte place)
-zero_fault at place most text bytes codes read up zero_in = (refl, bytes, codes ++ up.more, record { read = read; crunched = up.crunched }, zero_in)
+-- the fault of the part behind the number is the line's
+pub text_fault_known : (at place : ℕ) (text : List ℕ) (fault : TextFault) → IsNumbered text → IsTextOutOfMemory fault ⊎ IsFirstTextFault (rest_of text) fault
+    → IsBasicOutOfMemory (fault_of_text place fault) ⊎ HasFault at place text (fault_of_text place fault)
+text_fault_known at place text (text_faults.UnknownName offset) numbered (inl none) = absurd none
+text_fault_known at place text (text_faults.UnknownName offset) numbered (inr first) = inr (refl, numbered, first)
+text_fault_known at place text (text_faults.OpenBrace offset) numbered (inl none) = absurd none
+text_fault_known at place text (text_faults.OpenBrace offset) numbered (inr first) = inr (refl, numbered, first)
+text_fault_known at place text (text_faults.BadByte offset) numbered (inl none) = absurd none
+text_fault_known at place text (text_faults.BadByte offset) numbered (inr first) = inr (refl, numbered, first)
+text_fault_known at place text (text_faults.Memory error) numbered known = inl tt
 
-pub long_fault : (at place most : ℕ) (text bytes codes : List ℕ) → IsTextLineRead text bytes → CrunchesUpTo most bytes codes → ¬ (Contains bytes 0) → IsTooLong at codes → HasFault at place text (TooLong place)
-long_fault at place most text bytes codes read up no_zero long = (refl, bytes, codes ++ up.more, record { read = read; crunched = up.crunched }, no_zero, longer long)
+-- and so is that of its bytes, of which the first crunched ones are known
+pub codes_fault_known : (at place most : ℕ) (text bytes codes : List ℕ) (fault : BasicFault) → IsTextLineRead text bytes → CrunchesUpTo most bytes codes
+    → IsFaultOfCodes at place bytes codes fault → HasFault at place text fault
+codes_fault_known at place most text bytes codes (NoNumber line) read up known = absurd known
+codes_fault_known at place most text bytes codes (NumberTooLarge line) read up known = absurd known
+codes_fault_known at place most text bytes codes (Text line fault) read up known = absurd known
+codes_fault_known at place most text bytes codes (TokenByte line) read up known = absurd known
+codes_fault_known at place most text bytes codes (ZeroByte line) read up known = (known.0, bytes, codes ++ up.more, record { read = read; crunched = up.crunched }, known.1)
+codes_fault_known at place most text bytes codes (TooLong line) read up known =
+    (known.0, bytes, codes ++ up.more, record { read = read; crunched = up.crunched }, known.1, longer known.2)
   where
     longer : IsTooLong at codes → IsTooLong at (codes ++ up.more)
     longer (inl bytes_past) = inl (omega (arith, bytes_past, length-append codes up.more))
     longer (inr link_past) = inr (omega (arith, link_past, length-append codes up.more))
+codes_fault_known at place most text bytes codes (Memory error) read up known = absurd known

@@ -9,6 +9,7 @@ pub mod ListFault
 pub mod TextLine
 pub mod Causes
 pub mod BasicText
+pub mod LineFault
 pub mod FaultyLines
 pub mod NormalText
 pub mod Laws

@@ -1,7 +1,9 @@
 //! BASIC texts as program files.
 
-ghost use Rattle.std.specs.Prelude.{◌≡◌, ◌⊎◌, ◌++◌, ℕ, IfOk, IfErr, MatchResult, ◌<◌};
+ghost use Rattle.std.specs.Prelude.{◌≡◌, ◌⊎◌, ◌++◌, ℕ, Some, None, IfOk, IfErr, MatchResult, ◌<◌};
 ghost use Rattle.cbm_text.specs.BasicText.{IsFileOf, IsFirstBasicFault, IsBasicOutOfMemory, IsLine, HasFault, NamesLine};
+ghost use Rattle.cbm_text.specs.LineFault.{IsFaultOfCodes, IsNext, fault_of_text};
+ghost use Rattle.cbm_text.specs.declared.fault.BasicFault.TheVariants.{TokenByte};
 ghost use Rattle.cbm_text.specs.Program.{ProgramLine, line_layout, address_behind};
 
 use crate::codes::{MOST_BYTES, crunch_bytes};
@@ -53,7 +55,6 @@ pub fn crunch(alloc: Global, start: u16, text: &[u8]) -> Result<Vec<u8>, BasicFa
 
 /// Appends the program line of a text line, at an address. Returns the address behind it. A fault
 /// has the line's place in the text.
-#[tactic(auto, using(crate::proofs::TextPrograms::zero_fault, crate::proofs::TextPrograms::long_fault))]
 pub(crate) fn push_text_line(
     alloc: Global,
     file: &mut Vec<u8>,
@@ -68,20 +69,10 @@ pub(crate) fn push_text_line(
     let (number, rest) = split_number(text, place)?;
     let bytes = match from_text(alloc, rest) {
         Ok(bytes) => bytes,
-        Err(TextFault::Memory(error)) => return Err(BasicFault::Memory(error)),
-        Err(fault) => return Err(BasicFault::Text { line: place, fault }),
+        Err(fault) => return Err(fault_of_text(fault, place)),
     };
-    let Some(codes) = crunch_bytes(alloc, &bytes)? else {
-        return Err(BasicFault::TokenByte { line: place });
-    };
-    if bytes.contains(&0) {
-        return Err(BasicFault::ZeroByte { line: place });
-    }
-    let next = usize::from(at) + codes.len() + AROUND_BYTES;
-    if codes.len() > MOST_BYTES || next > GREATEST_LINK {
-        return Err(BasicFault::TooLong { line: place });
-    }
-    let next = next as u16;
+    let codes = found_codes(crunch_bytes(alloc, &bytes)?, place)?;
+    let next = next_address(at, &bytes, &codes, place)?;
     push_line(
         file,
         next,
@@ -91,4 +82,38 @@ pub(crate) fn push_text_line(
         },
     )?;
     Ok(next)
+}
+
+/// The fault of a line of which the part behind the number has this one.
+fn fault_of_text(fault: TextFault, place: usize) -> BasicFault
+    ensures { result ≡ fault_of_text place fault }
+{
+    match fault {
+        TextFault::Memory(error) => BasicFault::Memory(error),
+        fault => BasicFault::Text { line: place, fault },
+    }
+}
+
+/// The crunched bytes of a line if there are any.
+fn found_codes(codes: Option<Vec<u8>>, place: usize) -> Result<Vec<u8>, BasicFault>
+    ensures { MatchResult result (λ found. codes ≡ Some found) (λ fault. (codes ≡ None) × (fault ≡ TokenByte place)) }
+{
+    match codes {
+        Some(codes) => Ok(codes),
+        None => Err(BasicFault::TokenByte { line: place }),
+    }
+}
+
+/// The address behind a line of these bytes and crunched bytes, at an address.
+fn next_address(at: u16, bytes: &[u8], codes: &[u8], place: usize) -> Result<u16, BasicFault>
+    ensures { MatchResult result (IsNext at bytes.now codes.now) (IsFaultOfCodes at place bytes.now codes.now) }
+{
+    if bytes.contains(&0) {
+        return Err(BasicFault::ZeroByte { line: place });
+    }
+    let next = usize::from(at) + codes.len() + AROUND_BYTES;
+    if codes.len() > MOST_BYTES || next > GREATEST_LINK {
+        return Err(BasicFault::TooLong { line: place });
+    }
+    Ok(next as u16)
 }
