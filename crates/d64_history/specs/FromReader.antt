@@ -1,5 +1,6 @@
 -- What a reader gives: a session, or why there is no session.
 use Rattle.std.specs.Prelude.{◌≡◌, ℕ, ◌<◌, ◌≤◌, Option, length, IfSome}
+use Rattle.std.specs.Io.KnownBytes.{Consumes}
 use Rattle.d64_image.specs.Disk.{Bytes, AreBytes}
 use Rattle.d64_history.specs.History.{History}
 use Rattle.d64_history.specs.SessionFile.{file_of, IsSession}
@@ -23,3 +24,7 @@ abbrev pub IsRestFault : Option Bytes → ℕ → SessionReadFault → Type 0
 IsRestFault known limit Device = Unit {0}
 IsRestFault known limit TooLong = IfSome known (λ bytes. limit < length bytes)
 IsRestFault known limit (Resume fault) = ⊥
+
+-- a reader gave at most n bytes
+abbrev pub GivesAtMost : ℕ → Option Bytes → Option Bytes → Type 0
+GivesAtMost limit before after = (part : Bytes) × Consumes before after part × (length part ≤ limit)

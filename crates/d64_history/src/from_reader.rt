@@ -1,9 +1,10 @@
 //! Resuming histories from readers.
-ghost use Rattle.std.specs.Prelude.{◌≡◌, ◌+◌, ◌<◌, ◌≤◌, [], length, take, OnOk, IfOk, IfErr};
-ghost use Rattle.std.specs.Io.KnownBytes.{Consumes, IsAtEnd};
+ghost use Rattle.std.specs.Prelude.{◌≡◌, ◌+◌, ◌<◌, ◌≤◌, [], length, take, OnOk, IfOk, IfErr, Err};
+ghost use Rattle.std.specs.Io.KnownBytes.{Consumes, IsAtEnd, Keeps};
 ghost use Rattle.d64_image.specs.Disk.{Bytes, AreBytes};
-ghost use Rattle.d64_history.specs.FromReader.{IsReadFault, IsReadOf, IsRestFault};
+ghost use Rattle.d64_history.specs.FromReader.{GivesAtMost, IsReadFault, IsReadOf, IsRestFault};
 ghost use Rattle.d64_history.specs.Held.{IsHeld, held_history};
+ghost use Rattle.d64_history.specs.declared.from_reader.SessionReadFault.TheVariants.{Device};
 
 use crate::held::HeldHistory;
 use crate::resume_fault::ResumeFault;
@@ -30,6 +31,17 @@ pub enum SessionReadFault {
     Resume(ResumeFault),
 }
 
+impl From<ResumeFault> for SessionReadFault {
+    ghost use Rattle.std.specs.Prelude.{◌≡◌};
+    ghost use Rattle.d64_history.specs.declared.from_reader.SessionReadFault.TheVariants.{Resume};
+
+    ghost from_gives = { λ fault reported. reported ≡ Resume fault };
+
+    fn from(fault: ResumeFault) -> SessionReadFault {
+        SessionReadFault::Resume(fault)
+    }
+}
+
 /// Reads a piece into the front of the buffer, and takes its length off the bytes that may still be
 /// read. Returns that length, which is 0 at the end.
 fn read_piece<R: Read>(
@@ -43,6 +55,7 @@ fn read_piece<R: Read>(
     ensures bytes { AreBytes buffer.new }
     ensures left { IfOk result (λ count. count + left.new ≡ left.old) }
     ensures fault { IfErr result (λ fault. IsRestFault (R.remaining reader.old) left.old fault) }
+    ensures device { result ≡ Err Device → Keeps (R.remaining reader.old) (R.remaining reader.new) }
 {
     let outcome = reader.read(buffer);
     known_bytes(buffer);
@@ -68,6 +81,7 @@ fn read_past<R: Read>(
         × AreBytes more
         × (length more ≤ limit)) }
     ensures fault { IfErr result (λ fault. IsRestFault (R.remaining reader.old) limit fault) }
+    ensures device { result ≡ Err Device → GivesAtMost limit (R.remaining reader.old) (R.remaining reader.new) }
 {
     let mut left = limit;
     for _ in 0..u64::MAX {
@@ -91,6 +105,7 @@ fn read_all<R: Read>(
         × AreBytes file.new
         × (length file.new ≤ limit)) }
     ensures fault { IfErr result (λ fault. IsReadFault (R.remaining reader.old) limit fault) }
+    ensures device { result ≡ Err Device → GivesAtMost limit (R.remaining reader.old) (R.remaining reader.new) }
 {
     let mut buffer = [0; PIECE_BYTES];
     let mut left = limit;
@@ -101,7 +116,7 @@ fn read_all<R: Read>(
         }
         if let Err(fault) = file.push(&buffer[..count]) {
             read_past(reader, &mut buffer, left)?;
-            return Err(SessionReadFault::Resume(fault));
+            return Err(SessionReadFault::from(fault));
         }
     }
     unreachable!()
@@ -118,8 +133,9 @@ pub fn resume_from<R: Read>(
     ensures held { IfOk result IsHeld }
     ensures session { IfOk result (λ held. IsReadOf (R.remaining reader.old) limit (held_history held)) }
     ensures fault { IfErr result (λ fault. IsReadFault (R.remaining reader.old) limit fault) }
+    ensures device { result ≡ Err Device → GivesAtMost limit (R.remaining reader.old) (R.remaining reader.new) }
 {
     let mut file = Resuming::new(alloc);
     read_all(&mut file, reader, limit)?;
-    file.finish().map_err(SessionReadFault::Resume)
+    Ok(file.finish()?)
 }

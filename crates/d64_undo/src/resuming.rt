@@ -1,6 +1,7 @@
 //! Resuming sessions from session files.
-ghost use Rattle.std.specs.Prelude.{◌≡◌, IfOk, IfErr};
-ghost use Rattle.d64_history.specs.FromReader.{IsReadFault, IsReadOf};
+ghost use Rattle.std.specs.Prelude.{◌≡◌, Err, IfOk, IfErr};
+ghost use Rattle.d64_history.specs.FromReader.{GivesAtMost, IsReadFault, IsReadOf};
+ghost use Rattle.d64_history.specs.declared.from_reader.SessionReadFault.TheVariants.{Device};
 ghost use Rattle.d64_history.specs.ResumeFault.{first_resume_fault, resume_refused_by};
 ghost use Rattle.d64_history.specs.SessionFile.{file_of, IsSession};
 
@@ -31,6 +32,7 @@ pub fn resume_from<R: Read>(
 ) -> Result<Session, SessionReadFault>
     ensures session { IfOk result (λ session. IsReadOf (R.remaining reader.old) limit session) }
     ensures fault { IfErr result (λ fault. IsReadFault (R.remaining reader.old) limit fault) }
+    ensures device { result ≡ Err Device → GivesAtMost limit (R.remaining reader.old) (R.remaining reader.new) }
 {
     let held = d64_history::resume_from(alloc, reader, limit)?;
     Ok(Session::of_held(alloc, held))
