@@ -12,5 +12,6 @@ pub mod Refusals
 pub mod Start
 pub mod Subcommands
 pub mod Tracks
+pub mod Usages
 pub mod Values
 pub mod ProgramJobs

@@ -2,6 +2,7 @@
 
 ghost use Rattle.std.specs.Prelude.{◌≡◌};
 ghost use Rattle.program_arguments.specs.Subcommands.{name_for};
+ghost use Rattle.program_arguments.specs.Usages.{usage_for};
 
 use crate::subcommand::Subcommand;
 
@@ -19,8 +20,10 @@ pub(crate) struct Help {
 
 impl Subcommand {
     /// Returns the help of the subcommand: its row.
+    #[tactic(auto, unfolding(crate::specs::Usages::usage_for))]
     pub(crate) fn help(self) -> &'static Help
-        ensures { result.now.name.now ≡ name_for self }
+        ensures name { result.now.name.now ≡ name_for self }
+        ensures usage { result.now.usage.now ≡ usage_for self }
     {
         match self {
             Subcommand::Shell => &SHELL,

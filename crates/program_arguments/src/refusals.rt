@@ -6,6 +6,7 @@ ghost use Rattle.clap.specs.declared.error.kind.ErrorKind.{ErrorKind};
 ghost use Rattle.program_tips.specs.Meant.{meant_parts};
 ghost use Rattle.program_arguments.specs.Refusals.{lacks_usage, tip_for};
 ghost use Rattle.program_arguments.specs.Requested.{IsFaultOfKind};
+ghost use Rattle.program_arguments.specs.Usages.{refused_usage};
 
 use crate::command;
 use crate::help::USAGE;
@@ -60,7 +61,9 @@ fn lacks_usage(subcommand: Option<Subcommand>, kind: ErrorKind) -> bool
 }
 
 /// Returns the usage of a subcommand, or that of the program.
-fn usage_of(subcommand: Option<Subcommand>) -> &'static str {
+fn usage_of(subcommand: Option<Subcommand>) -> &'static str
+    ensures { result.now ≡ refused_usage subcommand }
+{
     match subcommand {
         Some(subcommand) => subcommand.help().usage,
         None => USAGE,
