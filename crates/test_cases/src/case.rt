@@ -24,7 +24,7 @@ pub enum WhenFull {
 #[derive(Drop)]
 pub struct RunOptions {
     /// The arguments after the program's name; None if the script is run without the program.
-    pub words: Option<Vec<String>>,
+    pub arguments: Option<Vec<String>>,
     /// The most bytes that a read gives; None means 1, 7 and 4,096 in turn.
     pub at_most: Option<usize>,
     pub reader_fails: Place,
@@ -45,7 +45,7 @@ impl RunOptions {
     /// Returns a run to the end, on streams that do not fail.
     pub fn plain(alloc: Global) -> RunOptions {
         RunOptions {
-            words: None,
+            arguments: None,
             at_most: None,
             reader_fails: Place::Nowhere,
             writer_stops: Place::Nowhere,
@@ -68,7 +68,7 @@ pub struct Run {
 
 /// What a step of a case does or checks.
 #[derive(Drop)]
-pub enum Deed {
+pub enum Action {
     /// From here on, files are those of the current folder.
     OnTheFolder,
     /// A session on this image begins.
@@ -124,5 +124,5 @@ pub enum Deed {
 #[derive(Drop)]
 pub struct Step {
     pub line: usize,
-    pub deed: Deed,
+    pub action: Action,
 }

@@ -1,6 +1,6 @@
 //! Why a case cannot be read or played.
 
-use std::alloc::{AllocError, AllocFailed};
+use std::alloc::{AllocError, AllocFailed, Global};
 use std::io;
 use thiserror::Error;
 
@@ -24,6 +24,16 @@ pub enum CaseFault {
     NoImage(usize),
     #[error("out of memory")]
     Memory,
+}
+
+impl CaseFault {
+    /// Returns the fault of a line in which this text cannot be read.
+    pub fn unreadable(alloc: Global, text: &str) -> CaseFault {
+        match String::from_str(alloc, text) {
+            Ok(text) => CaseFault::Unreadable(text),
+            Err(_) => CaseFault::Memory,
+        }
+    }
 }
 
 impl From<AllocError> for CaseFault {

@@ -4,15 +4,15 @@
 //! docs/TESTING.md says how a case is written.
 #![tactic(auto)]
 
+mod actions;
 mod case;
-mod deeds;
 mod fault;
 mod notation;
 mod reading;
 mod run_options;
 mod script;
 
-pub use case::{Deed, Place, Run, RunOptions, Step, WhenFull};
+pub use case::{Action, Place, Run, RunOptions, Step, WhenFull};
 pub use fault::CaseFault;
 pub use reading::{Unread, steps_of};
 pub use script::{Mark, Script};

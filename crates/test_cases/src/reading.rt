@@ -1,7 +1,7 @@
 //! Reading a case.
 
-use crate::case::{Deed, Run, RunOptions, Step};
-use crate::deeds::deed_of;
+use crate::actions::action_of;
+use crate::case::{Action, Run, RunOptions, Step};
 use crate::fault::CaseFault;
 use crate::notation::{bytes_of, number_of};
 use crate::run_options::take_option;
@@ -115,10 +115,10 @@ impl<'r, R: Files + AllocGlobal> Reading<'r, R> {
         if take_option(self.rt.alloc(), &mut self.options, word, rest)? {
             return Ok(());
         }
-        let deed = deed_of(self.rt, word, rest)?;
+        let action = action_of(self.rt, word, rest)?;
         self.steps.push(Step {
             line: self.line,
-            deed,
+            action,
         })?;
         Ok(())
     }
@@ -136,7 +136,7 @@ impl<'r, R: Files + AllocGlobal> Reading<'r, R> {
         let options = mem::replace(&mut self.options, RunOptions::plain(self.rt.alloc()));
         self.steps.push(Step {
             line: self.begins,
-            deed: Deed::Run {
+            action: Action::Run {
                 run: Run { options, script },
             },
         })?;
@@ -169,6 +169,6 @@ fn said_of<R: Files + AllocGlobal>(rt: &R, text: &str) -> Result<Said, CaseFault
             number_of(rt.alloc(), times)?,
             String::from_str(rt.alloc(), line)?,
         )),
-        None => Err(CaseFault::Unreadable(String::from_str(rt.alloc(), text)?)),
+        None => Err(CaseFault::unreadable(rt.alloc(), text)),
     }
 }

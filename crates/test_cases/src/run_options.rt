@@ -13,7 +13,7 @@ pub fn take_option(
     rest: &str,
 ) -> Result<bool, CaseFault> {
     match word {
-        "program" => options.words = Some(words_of(alloc, rest)?),
+        "program" => options.arguments = Some(arguments_of(alloc, rest)?),
         "status" => options.status = status_of(alloc, rest)?,
         "faults" => options.faults = faults_of(alloc, rest)?,
         "reads" => options.at_most = Some(number_after(alloc, "of ", rest)?),
@@ -26,28 +26,20 @@ pub fn take_option(
     Ok(true)
 }
 
-/// Returns the fault of a line in which this text cannot be read.
-fn unreadable(alloc: Global, text: &str) -> CaseFault {
-    match String::from_str(alloc, text) {
-        Ok(text) => CaseFault::Unreadable(text),
-        Err(_) => CaseFault::Memory,
-    }
-}
-
 /// Returns the arguments in a text, with single spaces between them; `""` is an empty one.
-fn words_of(alloc: Global, text: &str) -> Result<Vec<String>, CaseFault> {
-    let mut words = Vec::new(alloc);
+fn arguments_of(alloc: Global, text: &str) -> Result<Vec<String>, CaseFault> {
+    let mut arguments = Vec::new(alloc);
     for word in text.split_whitespace() {
-        let word = if word == "\"\"" { "" } else { word };
-        words.push(String::from_str(alloc, word)?)?;
+        let argument = if word == "\"\"" { "" } else { word };
+        arguments.push(String::from_str(alloc, argument)?)?;
     }
-    Ok(words)
+    Ok(arguments)
 }
 
 fn status_of(alloc: Global, text: &str) -> Result<u8, CaseFault> {
     match text.parse() {
         Ok(status) => Ok(status),
-        Err(_) => Err(unreadable(alloc, text)),
+        Err(_) => Err(CaseFault::unreadable(alloc, text)),
     }
 }
 
@@ -60,7 +52,7 @@ fn faults_of(alloc: Global, text: &str) -> Result<String, CaseFault> {
 fn number_after(alloc: Global, before: &str, text: &str) -> Result<usize, CaseFault> {
     match text.strip_prefix(before) {
         Some(number) => number_of(alloc, number),
-        None => Err(unreadable(alloc, text)),
+        None => Err(CaseFault::unreadable(alloc, text)),
     }
 }
 
@@ -69,7 +61,7 @@ fn place_after(alloc: Global, before: &str, text: &str) -> Result<Place, CaseFau
     match text.strip_prefix(before) {
         Some("anywhere") => Ok(Place::Anywhere),
         Some(place) => Ok(Place::After(number_after(alloc, "after ", place)?)),
-        None => Err(unreadable(alloc, text)),
+        None => Err(CaseFault::unreadable(alloc, text)),
     }
 }
 
@@ -91,6 +83,6 @@ fn take_writer(alloc: Global, options: &mut RunOptions, text: &str) -> Result<()
 fn past_of(alloc: Global, text: &str) -> Result<bool, CaseFault> {
     match text {
         "the limits" => Ok(true),
-        _ => Err(unreadable(alloc, text)),
+        _ => Err(CaseFault::unreadable(alloc, text)),
     }
 }

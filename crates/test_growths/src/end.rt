@@ -3,7 +3,7 @@
 use std::alloc::Global;
 use std::fmt;
 
-/// The bench on which a call is made: the runtime, and the name of the call.
+/// The bench on which a call is made: the runtime, and the name of the call with its arguments.
 #[derive(Drop)]
 pub struct Bench<'a> {
     rt: &'a HostRuntime,
@@ -23,10 +23,10 @@ impl<'a> Bench<'a> {
         self.rt.alloc()
     }
 
-    /// Returns the call's name, and what it is given.
-    pub fn words(&self) -> (&'a str, &'a str) {
+    /// Returns the name of the call, and its arguments.
+    pub fn name_and_arguments(&self) -> (&'a str, &'a str) {
         match self.name.split_once(' ') {
-            Some(words) => words,
+            Some(parts) => parts,
             None => (self.name, ""),
         }
     }

@@ -8,6 +8,7 @@
 //! swept.
 #![tactic(auto)]
 
+mod arguments;
 mod commands;
 mod disk;
 mod end;
@@ -18,7 +19,6 @@ mod scripts;
 mod sessions;
 mod texts;
 mod without_memory;
-mod words;
 mod writers;
 
 use end::{Bench, End};
@@ -40,7 +40,7 @@ fn main(rt: HostRuntime) -> Result<(), Fail> {
 
 /// Makes the call that the bench names, and returns how it ended.
 fn end_of_call(bench: &Bench) -> Result<End, Fail> {
-    let (call, given) = bench.words();
+    let (call, given) = bench.name_and_arguments();
     if let Some(call) = Look::of(call) {
         return looks::looked_at(bench, call);
     }
@@ -69,7 +69,7 @@ fn end_of_other(bench: &Bench, call: &str, given: &str) -> Result<End, Fail> {
         "petcat_run" => scripts::petcat_run(bench),
         "crunch_run" => scripts::crunch_run(bench),
         "ShellFault,ToolFault,JobFault,ProgramFault" => Ok(scripts::fault_texts(bench)),
-        "job" => words::job(bench, given),
+        "job" => arguments::job(bench, given),
         _ => end_of_session_call(bench, call, given),
     }
 }

@@ -28,7 +28,7 @@ impl From<Result<Outcome, ShellFault>> for Ending {
 /// A call of `run`, or of `program` if it has arguments.
 #[derive(Clone, Copy)]
 pub struct Call<'a> {
-    pub words: Option<&'a [String]>,
+    pub arguments: Option<&'a [String]>,
     /// The bytes that the reader gives, how many at most a read, and whether it then fails.
     pub given: &'a [u8],
     pub at_most: usize,
@@ -60,7 +60,7 @@ impl<'a> Call<'a> {
     /// Returns the call on what a first call left of the script, if it left some.
     pub fn second(run: &'a Run, at_most: usize, place: usize) -> Option<Call<'a>> {
         let mark = stopped_at(run, place)?;
-        if run.options.words.is_some() || run.script.is_closed(mark) {
+        if run.options.arguments.is_some() || run.script.is_closed(mark) {
             return None;
         }
         let call = Call::whole(run, at_most);
@@ -78,7 +78,10 @@ impl<'a> Call<'a> {
         let options = &run.options;
         let responses = run.script.responses.as_bytes();
         Call {
-            words: options.words.as_ref().map(|words| words.as_slice()),
+            arguments: options
+                .arguments
+                .as_ref()
+                .map(|arguments| arguments.as_slice()),
             given: run.script.bytes.as_slice(),
             at_most: options.at_most.unwrap_or(at_most),
             reader_fails: false,
@@ -156,17 +159,19 @@ pub fn place_count(run: &Run) -> usize {
     }
 }
 
+/// Returns the first bytes, or all if there are no more.
 fn up_to(bytes: &[u8], count: usize) -> &[u8] {
     bytes.get(..count).unwrap_or(bytes)
 }
 
+/// Returns the bytes after the first ones, or none if there are no more.
 fn from(bytes: &[u8], count: usize) -> &[u8] {
     bytes.get(count..).unwrap_or(&[])
 }
 
 /// Returns how a script ends whose reader and writer do not fail.
 fn ending_of(options: &RunOptions, responses: &[u8]) -> Ending {
-    if options.words.is_some() {
+    if options.arguments.is_some() {
         Ending::Status(options.status)
     } else if options.is_past_limits {
         Ending::ReadFault

@@ -9,7 +9,7 @@ use std::alloc::{AllocError, Global};
 use std::fs;
 use std::os::fd::AsFd;
 use std::rt::Files;
-use test_cases::{CaseFault, Deed, Run, Step, Unread, WhenFull};
+use test_cases::{Action, CaseFault, Run, Step, Unread, WhenFull};
 
 /// The most bytes that the shell may ask for in one read of a script, and the most reads.
 const READ_BYTES: usize = 4096;
@@ -57,42 +57,42 @@ where
         place: usize,
         differences: &mut Differences,
     ) -> Result<(), CaseFault> {
-        match &step.deed {
-            Deed::Run { run } => {
+        match &step.action {
+            Action::Run { run } => {
                 self.make_call(step.line, Call::first(run, at_most, place), differences)?;
                 match Call::second(run, at_most, place) {
                     Some(call) => self.make_call(step.line, call, differences),
                     None => Ok(()),
                 }
             }
-            Deed::OnTheFolder
-            | Deed::Image { .. }
-            | Deed::Put { .. }
-            | Deed::Change { .. }
-            | Deed::FailAt { .. } => self.prepare(&step.deed),
-            Deed::File { .. }
-            | Deed::FileIsImage { .. }
-            | Deed::NoFile { .. }
-            | Deed::Block { .. }
-            | Deed::Records { .. } => self.look(step, differences),
+            Action::OnTheFolder
+            | Action::Image { .. }
+            | Action::Put { .. }
+            | Action::Change { .. }
+            | Action::FailAt { .. } => self.prepare(&step.action),
+            Action::File { .. }
+            | Action::FileIsImage { .. }
+            | Action::NoFile { .. }
+            | Action::Block { .. }
+            | Action::Records { .. } => self.look(step, differences),
         }
     }
 
     /// Does what comes before a script.
-    fn prepare(&mut self, deed: &Deed) -> Result<(), CaseFault> {
-        match deed {
-            Deed::OnTheFolder => self.in_folder = true,
-            Deed::Image { bytes } => {
+    fn prepare(&mut self, action: &Action) -> Result<(), CaseFault> {
+        match action {
+            Action::OnTheFolder => self.in_folder = true,
+            Action::Image { bytes } => {
                 let Ok(image) = Image::from_bytes(self.rt.alloc(), bytes.as_slice()) else {
                     return Err(CaseFault::NoImage(bytes.len()));
                 };
                 self.session = Session::new(self.rt.alloc(), image);
             }
-            Deed::Put { name, bytes } => self.host.put(name.as_str(), bytes.as_slice())?,
-            Deed::Change { name, place, bytes } => {
+            Action::Put { name, bytes } => self.host.put(name.as_str(), bytes.as_slice())?,
+            Action::Change { name, place, bytes } => {
                 self.change(name.as_str(), *place, bytes.as_slice())?;
             }
-            Deed::FailAt { call } => self.host.fail_at(*call as u64),
+            Action::FailAt { call } => self.host.fail_at(*call as u64),
             _ => {}
         }
         Ok(())
@@ -122,8 +122,8 @@ where
 
     /// Checks a host file, a block or the records.
     fn look(&self, step: &Step, differences: &mut Differences) -> Result<(), CaseFault> {
-        match &step.deed {
-            Deed::File { name, bytes } => {
+        match &step.action {
+            Action::File { name, bytes } => {
                 self.look_at_file(
                     step.line,
                     name.as_str(),
@@ -131,14 +131,14 @@ where
                     differences,
                 )
             }
-            Deed::FileIsImage { name } => {
+            Action::FileIsImage { name } => {
                 let image = self.session.image().bytes();
                 self.look_at_file(step.line, name.as_str(), Some(image), differences)
             }
-            Deed::NoFile { name } => {
+            Action::NoFile { name } => {
                 self.look_at_file(step.line, name.as_str(), None, differences)
             }
-            Deed::Block {
+            Action::Block {
                 track,
                 sector,
                 place,
@@ -155,7 +155,7 @@ where
                 let found = up_to(found, bytes.len());
                 Ok(differences.look_at_bytes(step.line, "block", found, bytes.as_slice())?)
             }
-            Deed::Records { done, undone } => self.look_at_records(
+            Action::Records { done, undone } => self.look_at_records(
                 step.line,
                 *done,
                 *undone,
@@ -224,11 +224,18 @@ fn came_of<H: Host>(
     let mut reader = Pieces::of(call.given, call.at_most, call.reader_fails);
     let mut output = Bounded::with_limit(alloc, call.limit, call.when_full, call.fails_at_flush);
     let mut faults = Bounded::with_limit(alloc, call.faults_limit, WhenFull::TakesNothing, false);
-    let ending = match call.words {
-        Some(words) => {
-            let words: Vec<&str> = words.iter().map(|word| word.as_str()).collect(alloc)?;
-            let words = words.as_slice();
-            Ending::Status(program(alloc, words, &mut reader, &mut output, &mut faults, host))
+    let ending = match call.arguments {
+        Some(arguments) => {
+            let arguments: Vec<&str> = arguments.iter().map(|it| it.as_str()).collect(alloc)?;
+            let arguments = arguments.as_slice();
+            Ending::Status(program(
+                alloc,
+                arguments,
+                &mut reader,
+                &mut output,
+                &mut faults,
+                host,
+            ))
         }
         None => Ending::from(run(alloc, &mut reader, &mut output, host, "", session)),
     };
@@ -329,8 +336,8 @@ where
 
 /// Returns the run of a step, if it is one.
 fn run_of(step: &Step) -> Option<&Run> {
-    match &step.deed {
-        Deed::Run { run } => Some(run),
+    match &step.action {
+        Action::Run { run } => Some(run),
         _ => None,
     }
 }
