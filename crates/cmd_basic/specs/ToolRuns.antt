@@ -101,7 +101,7 @@ ReportsProgram name fault faults reported status =
 -- the host can say, and with status 2; or memory ran out
 abbrev pub ReportsUnwritten : List ℕ → Option Files → Account → Account → ℕ → Type 0
 ReportsUnwritten target all faults reported status =
-    ((status ≡ 2) × (reason : Option Reason) × IsWriteReason all reason × Writes faults reported (with_known_reason reason (unwritten_line target)))
+    ((status ≡ 2) × (reason : Option Reason) × IsWriteReason all target reason × Writes faults reported (with_known_reason reason (unwritten_line target)))
     ⊎ Reports Memory faults reported status
 
 -- how a tool is reported that had these bytes and stores its result, on a host with these files

@@ -7,7 +7,7 @@ ghost use Rattle.program_console.specs.Console.{IsFresh, SameStreams};
 ghost use Rattle.program_console.specs.Outside.{account_at, outside_at};
 ghost use Rattle.program_console.specs.declared.reason.Reason.{Reason};
 ghost use Rattle.out_messages.specs.FaultLines.{unwritten_line};
-ghost use Rattle.cmd_basic.specs.ToolRuns.{EndedToolTo, ReportsProgram, ReportsFaultyLines, ReportsStored, ReportsUnwritten, TakesInput};
+ghost use Rattle.cmd_basic.specs.ToolRuns.{EndedToolTo, ReportsProgram, ReportsFaultyLines, ReportsStored, ReportsUnwritten, TakesInput, fault_of_fetch};
 ghost use Rattle.cmd_basic.specs.Tools.{HasStored, fault_of_store, start_of};
 
 use crate::refusal_line::push_refusal_line;
@@ -86,10 +86,7 @@ impl<'n> StoredTool<'n> {
         };
         match fetch(alloc, host, name, INPUT_BYTES) {
             Ok(bytes) => Ok(bytes),
-            Err(HostFault::Memory(error)) => Err(ToolFault::Memory(error)),
-            Err(HostFault::Missing | HostFault::Device | HostFault::TooLong) => {
-                Err(ToolFault::Read)
-            }
+            Err(fault) => Err(fault_of_fetch(fault)),
         }
     }
 
@@ -199,12 +196,22 @@ impl<'n> StoredTool<'n> {
 /// Returns the line of a result that cannot be written to a file, with the reason, as far as the
 /// host can say.
 fn unwritten_text<H: Host>(alloc: Global, target: &str, host: &H) -> Result<Vec<u8>, AllocError>
-    ensures { IfOk result (λ line. (reason : Option Reason) × IsWriteReason (H.state host.now).files reason × (line.items ≡ with_known_reason reason (unwritten_line target.now))) }
+    ensures { IfOk result (λ line. (reason : Option Reason) × IsWriteReason (H.state host.now).files target.now reason × (line.items ≡ with_known_reason reason (unwritten_line target.now))) }
 {
     let mut line = Vec::new(alloc);
     unwritten_line(&mut line, target.as_bytes())?;
     push_known_reason(&mut line, reason_unwritten(host, target))?;
     Ok(line)
+}
+
+/// Returns the fault of a fetch as the tool's.
+pub(crate) fn fault_of_fetch(fault: HostFault) -> ToolFault
+    ensures { result ≡ fault_of_fetch fault }
+{
+    match fault {
+        HostFault::Memory(error) => ToolFault::Memory(error),
+        HostFault::Missing | HostFault::Device | HostFault::TooLong => ToolFault::Read,
+    }
 }
 
 /// Returns the fault of a store as the tool's.

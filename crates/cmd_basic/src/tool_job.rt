@@ -8,9 +8,9 @@ ghost use Rattle.script_lines.specs.Status.{status_line};
 ghost use Rattle.cmd_basic.specs.ToolRuns.{EndedConversion, RanToolOn, ReportsToolResult};
 ghost use Rattle.cmd_basic.specs.Tools.{ReadsWith, WritesWith};
 
-use crate::stored_tool::StoredTool;
+use crate::stored_tool::{StoredTool, fault_of_fetch};
 use crate::tools::{Tool, ToolFault};
-use host_storage::{Host, HostFault, INPUT_BYTES, OutputStream};
+use host_storage::{Host, INPUT_BYTES, OutputStream};
 use program_console::{ALL_ACCEPTED, Console, ProgramFault, SOME_REFUSED};
 use script_lines::Status;
 use script_lines::host_file::fetch;
@@ -105,8 +105,7 @@ fn write_result<R: Read, W: Write, F: Write, H: Host>(
     };
     match fetch(alloc, host, name, INPUT_BYTES) {
         Ok(bytes) => tool.write(alloc, &bytes, &mut console.outputs.output),
-        Err(HostFault::Memory(error)) => Err(ToolFault::Memory(error)),
-        Err(HostFault::Missing | HostFault::Device | HostFault::TooLong) => Err(ToolFault::Read),
+        Err(fault) => Err(fault_of_fetch(fault)),
     }
 }
 

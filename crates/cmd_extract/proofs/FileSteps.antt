@@ -1,6 +1,5 @@
 -- The files of an image, step by step.
 use Rattle.std.proofs.Common.{◌≡◌, ℕ, Bool, true, false, not, cond, List, [], ◌∷◌, ◌++◌, Option, Some, None, Result, Ok, Err, refl, sym, ap, ap₂, ◌∙◌, subst, append-nil}
-use Rattle.program_console.specs.Reasons.{IsWriteReason}
 use Rattle.program_console.specs.declared.reason.Reason.{Reason}
 use Rattle.std.specs.Prelude.{is_some, OnOk}
 use Rattle.std.specs.Str.{is_utf8}
@@ -18,7 +17,7 @@ use Rattle.cmd_extract.specs.Setup.{TaskView}
 use Rattle.host_names.specs.Paths.{path_in}
 use Rattle.cmd_extract.specs.Progress.{Progress, portion_of, row_name, reported_progress, spent_progress, named_progress, written_progress, unwritten_progress}
 use Rattle.cmd_extract.specs.declared.list_state.ListState.{ListState}
-use Rattle.cmd_extract.specs.Work.{Work, NewFile, SaysFile, LeadsTo}
+use Rattle.cmd_extract.specs.Work.{Work, NewFile, SaysFile, IsReasonAt, LeadsTo}
 use Rattle.cmd_extract.specs.Unpacking.{closed_progress, after_writing, write_work, file_work, wait_work, files_work, list_work}
 use Rattle.cmd_extract.proofs.Steps.{called, explained, nothing_yet}
 
@@ -61,11 +60,11 @@ pub was_written : (task : TaskView) (row : ListedRow) (file : List ℕ) (p : Pro
 was_written task row file p rest host said is =
     subst (λ (s : Bool). LeadsTo (after_writing task row file p rest s) host (rest (written_progress task row file p)) host) (sym is) (nothing_yet (rest (written_progress task row file p)) host)
 
-pub was_not : (task : TaskView) (row : ListedRow) (file : List ℕ) (p : Progress) (rest : Progress → Work) (host : HostState) (said : Bool) (reason : Option Reason) → said ≡ false → IsWriteReason host.files reason
+pub was_not : (task : TaskView) (row : ListedRow) (file : List ℕ) (p : Progress) (rest : Progress → Work) (host : HostState) (said : Bool) (reason : Option Reason) → said ≡ false → IsReasonAt (is_utf8 (path_in task.partial file)) host.files (path_in task.partial file) reason
     → LeadsTo (after_writing task row file p rest said) host (rest (unwritten_progress task row file reason p)) host
 was_not task row file p rest host said reason is says =
     subst (λ (s : Bool). LeadsTo (after_writing task row file p rest s) host (rest (unwritten_progress task row file reason p)) host) (sym is)
-    (explained (λ (r : Option Reason). rest (unwritten_progress task row file r p)) host reason says)
+    (explained (path_in task.partial file) (λ (r : Option Reason). rest (unwritten_progress task row file r p)) host reason says)
 
 -- no file was written, and its line was added
 pub reported_none : {A E : Type 0} (result : Result A E) (task : TaskView) (row : ListedRow) (p : Progress) (left : Option ℕ) (printed lines complaint : List ℕ) (list : ListState) (failed : Bool)

@@ -1,6 +1,6 @@
 -- The folder of an image, step by step.
 use Rattle.std.proofs.Common.{◌≡◌, ℕ, Bool, true, false, cond, List, Option, sym, ap, subst}
-use Rattle.program_console.specs.Reasons.{IsWriteReason}
+use Rattle.std.specs.Str.{is_utf8}
 use Rattle.program_console.specs.declared.reason.Reason.{Reason}
 use Rattle.host_storage.specs.Files.{HostState}
 use Rattle.d64_leftovers.specs.Rows.{wanted_rows}
@@ -8,7 +8,7 @@ use Rattle.out_files.specs.Forms.{files_and}
 use Rattle.cmd_extract.specs.Setup.{TaskView, list_in}
 use Rattle.host_names.specs.Paths.{path_inside}
 use Rattle.cmd_extract.specs.Progress.{Progress, progress_before_files}
-use Rattle.cmd_extract.specs.Work.{Work, Done, Then, Why, Look, NewFolder, Rename, CallReturns, LeadsTo}
+use Rattle.cmd_extract.specs.Work.{Work, Done, Then, Why, Look, NewFolder, Rename, CallReturns, IsReasonAt, LeadsTo}
 use Rattle.cmd_extract.specs.Unpacking.{unfinished_outcome, finished_outcome, unnamed_outcome, unmade_outcome, present_outcome, skipped_outcome, after_naming, name_work, unmade_work, files_work, folder_work, folders_work, folder_after, present_work, task_work_with}
 use Rattle.cmd_extract.proofs.Steps.{called, explained, further, nothing_yet}
 
@@ -31,32 +31,32 @@ named task p host said is =
     subst (λ (s : Bool). LeadsTo (after_naming task p s) host (Done (finished_outcome task p)) host) (sym is) (nothing_yet (Done (finished_outcome task p)) host)
 
 -- or hasn't
-pub unnamed : (task : TaskView) (p : Progress) (host : HostState) (said : Bool) (reason : Option Reason) → said ≡ false → IsWriteReason host.files reason
+pub unnamed : (task : TaskView) (p : Progress) (host : HostState) (said : Bool) (reason : Option Reason) → said ≡ false → IsReasonAt (is_utf8 task.done) host.files task.done reason
     → LeadsTo (after_naming task p said) host (Done (unnamed_outcome task p reason)) host
 unnamed task p host said reason is says =
     subst (λ (s : Bool). LeadsTo (after_naming task p s) host (Done (unnamed_outcome task p reason)) host) (sym is)
-    (explained (λ (r : Option Reason). Done (unnamed_outcome task p r)) host reason says)
+    (explained task.done (λ (r : Option Reason). Done (unnamed_outcome task p r)) host reason says)
 
 -- what a folder that cannot be made is called
 abbrev named_folder : TaskView → List ℕ → Bool → List ℕ
 named_folder task path is_there = cond is_there path task.setup.into
 
 -- a folder cannot be made, and the host gave the reason
-unmade : (task : TaskView) (path into : List ℕ) (host : HostState) (said : Bool) (reason : Option Reason) → into ≡ task.setup.into → CallReturns (Look into) host said host → IsWriteReason host.files reason
+unmade : (task : TaskView) (path into : List ℕ) (host : HostState) (said : Bool) (reason : Option Reason) → into ≡ task.setup.into → CallReturns (Look into) host said host → IsReasonAt (is_utf8 path) host.files path reason
     → LeadsTo (unmade_work task path) host (Done (unmade_outcome task (named_folder task path said) reason)) host
 unfolding unmade_work
 unmade task path into host said reason is_into says why =
-    further _ (Why (λ (r : Option Reason). Done (unmade_outcome task (named_folder task path said) r))) _ host host host
-    (called (Look task.setup.into) (λ is_there. Why (λ reason. Done (unmade_outcome task (named_folder task path is_there) reason))) host host said
+    further _ (Why path (λ (r : Option Reason). Done (unmade_outcome task (named_folder task path said) r))) _ host host host
+    (called (Look task.setup.into) (λ is_there. Why path (λ reason. Done (unmade_outcome task (named_folder task path is_there) reason))) host host said
     (subst (λ (q : List ℕ). CallReturns (Look q) host said host) is_into says))
-    (explained (λ (r : Option Reason). Done (unmade_outcome task (named_folder task path said) r)) host reason why)
+    (explained path (λ (r : Option Reason). Done (unmade_outcome task (named_folder task path said) r)) host reason why)
 
-pub unmade_at : (task : TaskView) (path into : List ℕ) (host : HostState) (said : Bool) (reason : Option Reason) → into ≡ task.setup.into → CallReturns (Look into) host said host → IsWriteReason host.files reason → said ≡ true
+pub unmade_at : (task : TaskView) (path into : List ℕ) (host : HostState) (said : Bool) (reason : Option Reason) → into ≡ task.setup.into → CallReturns (Look into) host said host → IsReasonAt (is_utf8 path) host.files path reason → said ≡ true
     → LeadsTo (unmade_work task path) host (Done (unmade_outcome task path reason)) host
 unmade_at task path into host said reason is_into says why is =
     subst (λ (s : Bool). LeadsTo (unmade_work task path) host (Done (unmade_outcome task (named_folder task path s) reason)) host) is (unmade task path into host said reason is_into says why)
 
-pub unmade_below : (task : TaskView) (path into : List ℕ) (host : HostState) (said : Bool) (reason : Option Reason) → into ≡ task.setup.into → CallReturns (Look into) host said host → IsWriteReason host.files reason → said ≡ false
+pub unmade_below : (task : TaskView) (path into : List ℕ) (host : HostState) (said : Bool) (reason : Option Reason) → into ≡ task.setup.into → CallReturns (Look into) host said host → IsReasonAt (is_utf8 path) host.files path reason → said ≡ false
     → LeadsTo (unmade_work task path) host (Done (unmade_outcome task task.setup.into reason)) host
 unmade_below task path into host said reason is_into says why is =
     subst (λ (s : Bool). LeadsTo (unmade_work task path) host (Done (unmade_outcome task (named_folder task path s) reason)) host) is (unmade task path into host said reason is_into says why)

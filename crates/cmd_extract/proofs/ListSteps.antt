@@ -4,13 +4,13 @@ use Rattle.std.specs.Prelude.{nat_lt, OnOk}
 use Rattle.std.specs.Str.{is_utf8}
 use Rattle.host_storage.specs.Files.{HostState}
 use Rattle.out_messages.specs.FaultLines.{unwritten_line}
-use Rattle.program_console.specs.Reasons.{IsWriteReason, with_known_reason}
+use Rattle.program_console.specs.Reasons.{with_known_reason}
 use Rattle.program_console.specs.declared.reason.Reason.{Reason}
 use Rattle.cmd_extract.specs.Setup.{TaskView, list_path}
 use Rattle.cmd_extract.specs.Progress.{Progress, waiting_limit, put_progress, unput_progress, dropped_progress}
 use Rattle.cmd_extract.specs.declared.list_state.ListState.{ListState}
 use Rattle.cmd_extract.specs.declared.list_state.ListState.TheVariants.{New, Begun, GivenUp}
-use Rattle.cmd_extract.specs.Work.{Work, NewFile, MoreOfFile, SaysFile, SaysMore, LeadsTo}
+use Rattle.cmd_extract.specs.Work.{Work, NewFile, MoreOfFile, SaysFile, SaysMore, IsReasonAt, LeadsTo}
 use Rattle.cmd_extract.specs.Unpacking.{after_putting, put_work, wait_work}
 use Rattle.cmd_extract.proofs.Steps.{called, explained, nothing_yet}
 
@@ -20,11 +20,11 @@ piece_put task p rest host is_put is =
     subst (λ (s : Bool). LeadsTo (after_putting task p rest s) host (rest (put_progress p)) host) (sym is) (nothing_yet (rest (put_progress p)) host)
 
 -- or wasn't
-pub piece_unput : (task : TaskView) (p : Progress) (rest : Progress → Work) (host : HostState) (is_put : Bool) (reason : Option Reason) → is_put ≡ false → IsWriteReason host.files reason
+pub piece_unput : (task : TaskView) (p : Progress) (rest : Progress → Work) (host : HostState) (is_put : Bool) (reason : Option Reason) → is_put ≡ false → IsReasonAt (is_utf8 (list_path task)) host.files (list_path task) reason
     → LeadsTo (after_putting task p rest is_put) host (rest (unput_progress task reason p)) host
 piece_unput task p rest host is_put reason is says =
     subst (λ (s : Bool). LeadsTo (after_putting task p rest s) host (rest (unput_progress task reason p)) host) (sym is)
-    (explained (λ (r : Option Reason). rest (unput_progress task r p)) host reason says)
+    (explained (list_path task) (λ (r : Option Reason). rest (unput_progress task r p)) host reason says)
 
 -- that was said
 pub unput_said : {A E : Type 0} (result : Result A E) (task : TaskView) (reason : Option Reason) (p : Progress) (path printed lines complaint : List ℕ) (list : ListState) (failed : Bool)

@@ -31,7 +31,7 @@ use Rattle.cmd_extract.specs.declared.unpacker.Unpacker.{Unpacker}
 unfoldable IsQuietWork : Work → Type 0
 IsQuietWork (Done outcome) = outcome.verdict ≡ Clean → outcome.complaint ≡ []
 IsQuietWork (Then call next) = (said : Bool) → IsQuietWork (next said)
-IsQuietWork (Why next) = (reason : Option Reason) → IsQuietWork (next reason)
+IsQuietWork (Why path next) = (reason : Option Reason) → IsQuietWork (next reason)
 
 -- then a clean result has none
 does_quietly : (work : Work) (old new : HostState) (outcome : FileOutcome) → IsQuietWork work → DoesWork work old (Some outcome) new → outcome.verdict ≡ Clean → outcome.complaint ≡ []
@@ -42,8 +42,8 @@ does_quietly (Done reported) old new outcome quiet (same, inl is) clean =
 does_quietly (Done reported) old new outcome quiet (same, inr is) clean = absurd (let e : Some outcome ≡ None = is in cc)
 does_quietly (Then call next) old new outcome quiet (inl (said, middle, says, done)) clean = does_quietly (next said) middle new outcome (quiet said) done clean
 does_quietly (Then call next) old new outcome quiet (inr (same, is)) clean = absurd (let e : Some outcome ≡ None = is in cc)
-does_quietly (Why next) old new outcome quiet (inl (reason, says, done)) clean = does_quietly (next reason) old new outcome (quiet reason) done clean
-does_quietly (Why next) old new outcome quiet (inr (same, is)) clean = absurd (let e : Some outcome ≡ None = is in cc)
+does_quietly (Why path next) old new outcome quiet (inl (reason, says, done)) clean = does_quietly (next reason) old new outcome (quiet reason) done clean
+does_quietly (Why path next) old new outcome quiet (inr (same, is)) clean = absurd (let e : Some outcome ≡ None = is in cc)
 
 -- there is no complaint unless a write failed
 abbrev IsQuietSoFar : Progress → Type 0

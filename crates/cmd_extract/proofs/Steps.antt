@@ -1,13 +1,13 @@
 -- How a work is done, step by step.
-use Rattle.std.proofs.Common.{◌≡◌, Bool, true, false, Option, Some, None, refl, sym, ap, subst, inl, inr, Result, Ok, Err}
+use Rattle.std.proofs.Common.{◌≡◌, ℕ, List, Bool, true, false, Option, Some, None, refl, sym, ap, subst, inl, inr, Result, Ok, Err}
 use Rattle.std.specs.Prelude.{OnOk, IfOk, IsErr, MatchResult}
-use Rattle.host_storage.specs.Files.{HostState}
+use Rattle.std.specs.Str.{is_utf8}
+use Rattle.host_storage.specs.Files.{Files, HostState}
 use Rattle.program_surveys.specs.FileOutcomes.{FileOutcome}
-use Rattle.program_console.specs.Reasons.{IsWriteReason}
 use Rattle.program_console.specs.declared.reason.Reason.{Reason}
 use Rattle.program_surveys.specs.declared.report.Verdict.{Verdict}
 use Rattle.program_surveys.specs.declared.report.ReportBuffer.{ReportBuffer}
-use Rattle.cmd_extract.specs.Work.{Work, Done, Then, Why, HostCall, CallReturns, DoesWork, LeadsTo, Comes, EndsWork, outcome_in}
+use Rattle.cmd_extract.specs.Work.{Work, Done, Then, Why, HostCall, CallReturns, IsReasonAt, DoesWork, LeadsTo, Comes, EndsWork, outcome_in}
 use Rattle.cmd_extract.specs.Progress.{Progress}
 
 -- memory may run out before anything is done
@@ -15,7 +15,7 @@ pub stops : (work : Work) (host : HostState) → DoesWork work host None host
 unfolding DoesWork
 stops (Done outcome) host = (refl, inr refl)
 stops (Then call next) host = inr (refl, refl)
-stops (Why next) host = inr (refl, refl)
+stops (Why path next) host = inr (refl, refl)
 
 -- work that is done has its result
 pub gives_outcome : (outcome : FileOutcome) (host : HostState) → DoesWork (Done outcome) host (Some outcome) host
@@ -28,9 +28,14 @@ unfolding DoesWork
 called call next old now said says = λ given new done. inl (said, now, says, done)
 
 -- the host gave the reason why a call was refused
-pub explained : (next : Option Reason → Work) (host : HostState) (reason : Option Reason) → IsWriteReason host.files reason → LeadsTo (Why next) host (next reason) host
+pub explained : (path : List ℕ) (next : Option Reason → Work) (host : HostState) (reason : Option Reason) → IsReasonAt (is_utf8 path) host.files path reason → LeadsTo (Why path next) host (next reason) host
 unfolding DoesWork
-explained next host reason says = λ given new done. inl (reason, says, done)
+explained path next host reason says = λ given new done. inl (reason, says, done)
+
+-- the reason at a path is the one at the same path
+pub same_reason : (path other : List ℕ) (files : Option Files) (reason : Option Reason) → path ≡ other → IsReasonAt (is_utf8 path) files path reason
+    → IsReasonAt (is_utf8 other) files other reason
+same_reason path other files reason is says = subst (λ (q : List ℕ). IsReasonAt (is_utf8 q) files q reason) is says
 
 -- one part of the way after another
 pub further : (work middle rest : Work) (old reached now : HostState) → LeadsTo work old middle reached → LeadsTo middle reached rest now → LeadsTo work old rest now

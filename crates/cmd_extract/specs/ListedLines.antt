@@ -23,7 +23,7 @@ bytes_into path (Rename from to) = []
 unfoldable pub all_into : List ℕ → Work → List ℕ
 all_into path (Done outcome) = []
 all_into path (Then call next) = bytes_into path call ++ all_into path (next true)
-all_into path (Why next) = all_into path (next None)
+all_into path (Why place next) = all_into path (next None)
 
 -- the path of the host file of a row in the finished folder, if there is something to write of it
 abbrev pub path_of : TaskView → ListedRow → List (List ℕ) → Option Portion → Option (List ℕ)

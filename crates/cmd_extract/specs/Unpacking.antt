@@ -81,7 +81,7 @@ closed_progress task progress = record progress {
 -- the folder has its name, or does not get it
 abbrev pub after_naming : TaskView → Progress → Bool → Work
 after_naming task progress true = Done (finished_outcome task progress)
-after_naming task progress false = Why (λ reason. Done (unnamed_outcome task progress reason))
+after_naming task progress false = Why task.done (λ reason. Done (unnamed_outcome task progress reason))
 
 -- the folder gets its name, if all was written
 unfoldable pub name_work : TaskView → Progress → Work
@@ -92,7 +92,7 @@ name_work task progress =
 -- the lines that waited are in the list of the files, or could not be written; then comes the rest
 abbrev pub after_putting : TaskView → Progress → (Progress → Work) → Bool → Work
 after_putting task progress rest true = rest (put_progress progress)
-after_putting task progress rest false = Why (λ reason. rest (unput_progress task reason progress))
+after_putting task progress rest false = Why (list_path task) (λ reason. rest (unput_progress task reason progress))
 
 -- the lines that wait are written to the list: it is made with the first of them, and later ones
 -- are appended; then comes the rest
@@ -113,7 +113,7 @@ list_work task progress = put_work progress.list task progress (name_work task)
 -- a file was written, or could not be; then comes the rest
 abbrev pub after_writing : TaskView → ListedRow → List ℕ → Progress → (Progress → Work) → Bool → Work
 after_writing task row file progress rest true = rest (written_progress task row file progress)
-after_writing task row file progress rest false = Why (λ reason. rest (unwritten_progress task row file reason progress))
+after_writing task row file progress rest false = Why (path_in task.partial file) (λ reason. rest (unwritten_progress task row file reason progress))
 
 -- a file is written under a host name that is taken; then comes the rest
 abbrev pub write_work : TaskView → ListedRow → List ℕ → Bytes → Progress → (Progress → Work) → Work
@@ -137,7 +137,7 @@ files_work task (row ∷ wanted_rows) progress =
 -- folder instead if that does not exist
 unfoldable pub unmade_work : TaskView → List ℕ → Work
 unmade_work task path =
-    Then (Look task.setup.into) (λ is_there. Why (λ reason. Done (unmade_outcome task (if is_there then path else task.setup.into) reason)))
+    Then (Look task.setup.into) (λ is_there. Why path (λ reason. Done (unmade_outcome task (if is_there then path else task.setup.into) reason)))
 
 -- the image's folder is made, and then its files
 unfoldable pub folder_work : TaskView → Work

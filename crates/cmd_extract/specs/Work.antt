@@ -28,12 +28,12 @@ pub data HostCall : Type 0 where
   Rename : List ℕ → List ℕ → HostCall
 
 -- what is done: nothing more, with this result; or a call comes first, and the rest depends on what
--- it returns; or the host gives the reason why the last call was refused, and the rest depends on
--- that
+-- it returns; or the host gives the reason why the last call was refused at a path, and the rest
+-- depends on that
 pub data Work : Type 0 where
   Done : FileOutcome → Work
   Then : HostCall → (Bool → Work) → Work
-  Why : (Option Reason → Work) → Work
+  Why : List ℕ → (Option Reason → Work) → Work
 
 -- a call that makes something new at a path had this result
 abbrev pub IsTried : (Files → Files) → HostState → List ℕ → Result (Unit {0}) FolderFault → HostState → Type 0
@@ -74,6 +74,11 @@ CallReturns (MoreOfFile path bytes) old said new = SaysMore (is_utf8 path) path 
 CallReturns (Rename from to) old said new =
     (outcome : Result (Unit {0}) FolderFault) × IsTried (with_moved from to) old to outcome new × WasFolder old from outcome × (said ≡ is_ok outcome)
 
+-- why a call was refused at a path, by whether that is UTF-8: if not, no host says it
+abbrev pub IsReasonAt : Bool → Option Files → List ℕ → Option Reason → Type 0
+IsReasonAt true files path reason = IsWriteReason files path reason
+IsReasonAt false files path reason = reason ≡ None
+
 -- work is done, from one state of the host to another, with a result, or None if memory ran out:
 -- that may happen before each call, and before the result
 unfoldable pub DoesWork : Work → HostState → Option FileOutcome → HostState → Type 0
@@ -81,8 +86,8 @@ DoesWork (Done outcome) old given new = (new ≡ old) × ((given ≡ Some outcom
 DoesWork (Then call next) old given new =
     ((said : Bool) × (middle : HostState) × CallReturns call old said middle × DoesWork (next said) middle given new)
     ⊎ ((new ≡ old) × (given ≡ None))
-DoesWork (Why next) old given new =
-    ((reason : Option Reason) × IsWriteReason old.files reason × DoesWork (next reason) old given new)
+DoesWork (Why path next) old given new =
+    ((reason : Option Reason) × IsReasonAt (is_utf8 path) old.files path reason × DoesWork (next reason) old given new)
     ⊎ ((new ≡ old) × (given ≡ None))
 
 -- the beginning of one piece of work leads to another piece: whatever that one does from here, the

@@ -1,7 +1,7 @@
 //! The calls that are made of the host.
 ghost use Rattle.std.specs.Prelude.{◌≡◌};
-ghost use Rattle.program_console.specs.Reasons.{IsWriteReason};
-ghost use Rattle.cmd_extract.specs.Work.{CallReturns, Look, Folder, NewFolder, NewFile, MoreOfFile, Rename};
+ghost use Rattle.std.specs.Str.{is_utf8};
+ghost use Rattle.cmd_extract.specs.Work.{CallReturns, IsReasonAt, Look, Folder, NewFolder, NewFile, MoreOfFile, Rename};
 
 use host_storage::{FolderFault, Host};
 use program_console::{Reason, reason_unwritten};
@@ -54,7 +54,7 @@ pub(crate) fn extend_file<H: Host>(host: &mut H, path: &[u8], bytes: &[u8]) -> b
 /// Returns why the last call, which was refused, could not be done at this path, as far as the host
 /// can say.
 pub(crate) fn reason_at<H: Host>(host: &H, path: &[u8]) -> Option<Reason>
-    ensures { IsWriteReason (H.state host.now).files result }
+    ensures { IsReasonAt (is_utf8 path.now) (H.state host.now).files path.now result }
 {
     match str::from_utf8(path) {
         Ok(path) => reason_unwritten(host, path),

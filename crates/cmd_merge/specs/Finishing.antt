@@ -22,7 +22,7 @@ IsFileMade path bytes old result new =
 abbrev pub ConcludesMaking : MergeSetupView → ReadingsView → Bytes → Result (Unit {0}) FolderFault → HostState → FileOutcome → Type 0
 ConcludesMaking setup readings bytes (Ok done) host outcome = outcome ≡ merged_outcome setup readings (Some bytes)
 ConcludesMaking setup readings bytes (Err fault) host outcome =
-    (reason : Option Reason) × IsWriteReason host.files reason × (outcome ≡ unwritten_outcome setup readings reason)
+    (reason : Option Reason) × IsWriteReason host.files setup.out reason × (outcome ≡ unwritten_outcome setup readings reason)
 
 -- what is done with the bytes of the dump that is made; None if there is a conflict
 abbrev pub WritesMerged : MergeSetupView → ReadingsView → Option Bytes → HostState → FileOutcome → HostState → Type 0

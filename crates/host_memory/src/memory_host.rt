@@ -293,10 +293,14 @@ impl Host for MemoryHost {
         }
     }
 
-    fn write_obstacle(&self, _path: &str) -> Option<WriteObstacle>
-        ensures obstacle { LooksToWrite (Some self.now.files) result }
+    fn write_obstacle(&self, path: &str) -> Option<WriteObstacle>
+        ensures obstacle { LooksToWrite (Some self.now.files) path.now result }
     {
-        None
+        if self.has_folder(path) {
+            Some(WriteObstacle::Folder)
+        } else {
+            None
+        }
     }
 
     fn make_folder(&mut self, path: &str) -> Result<(), FolderFault>

@@ -1,7 +1,8 @@
 //! A host over the files of the system, in the current folder.
 
-ghost use Rattle.std.specs.Prelude.{◌≡◌, ◌≢◌, ◌+◌, ◌<◌, ◌≤◌, ◌↔◌, ◌++◌, length, take, vec_len, None, IfOk, IfErr, IfSome, OnOk, OnErr};
-ghost use Rattle.std.specs.Io.KnownBytes.{Consumes, IsAtEnd};
+ghost use Rattle.std.specs.Prelude.{◌≡◌, ◌≢◌, ◌+◌, ◌<◌, ◌≤◌, ◌↔◌, ◌++◌, length, take, vec_len, None, Err, IfOk, IfErr, IfSome, OnOk, OnErr, MatchResult};
+ghost use Rattle.std.specs.Io.KnownBytes.{Consumes, IsAtEnd, Keeps};
+ghost use Rattle.std.specs.IoError.{error_kind};
 ghost use Rattle.host_storage.specs.System.{is_of_open_file};
 ghost use Rattle.host_storage.specs.Folders.{failures_after_making};
 ghost use Rattle.host_storage.specs.Host.{failures_after};
@@ -14,7 +15,7 @@ use crate::writes::Writes;
 use crate::{look, new_entry, whole_file};
 use std::alloc::{AllocError, Global};
 use std::fs::{self, File};
-use std::io::{ErrorKind, Read};
+use std::io::{self, ErrorKind, Read};
 use std::marker::Model;
 use std::os::fd::AsFd;
 use std::os::unix::fs::FileTypeExt;
@@ -239,7 +240,15 @@ fn is_of_open_file(path: &str) -> bool
 fn open_file<R: Files>(rt: &R, path: &str) -> Result<Retrying<R::File>, HostFault>
     ensures { result ≢ Err HostFault.TooLong }
 {
-    match File::open(rt, path) {
+    opened(File::open(rt, path))
+}
+
+/// The outcome of an opening, by what the system says: a file whose reads are repeated after an
+/// interruption, or the fault.
+fn opened<F: Drop>(outcome: io::Result<F>) -> Result<Retrying<F>, HostFault>
+    ensures { MatchResult outcome (λ file. MatchResult result (λ opened. opened.0 ≡ file) (λ _. ⊥)) (λ error. (error_kind error ≡ ErrorKind.NotFound → result ≡ Err HostFault.Missing) × (error_kind error ≢ ErrorKind.NotFound → result ≡ Err HostFault.Device)) }
+{
+    match outcome {
         Ok(file) => Ok(Retrying(file)),
         Err(error) => Err(open_fault(error.kind())),
     }
@@ -293,6 +302,7 @@ fn read_piece<F: Read>(
     ensures more { IfOk result (λ count. vec_len bytes.new ≡ vec_len bytes.old + count) }
     ensures read { IfOk result (λ count. bytes.new.items ≡ bytes.old.items ++ take count buffer.new × Consumes (F.remaining file.old) (F.remaining file.new) (take count buffer.new) × (count ≡ 0 → 0 < length buffer.new → IsAtEnd (F.remaining file.new))) }
     ensures too_long { result ≡ Err HostFault.TooLong → IfSome (F.remaining file.old) (λ rest. limit < length bytes.old.items + length rest) }
+    ensures device { result ≡ Err HostFault.Device → Keeps (F.remaining file.old) (F.remaining file.new) }
     ensures never_missing { result ≢ Err HostFault.Missing }
 {
     let Ok(count) = file.read(buffer) else {
@@ -312,6 +322,7 @@ fn add_piece(bytes: &mut Vec<u8>, piece: &[u8], limit: usize) -> Result<(), Host
     ensures refused { OnErr result (bytes.new.items ≡ bytes.old.items) }
     ensures too_long { (result ≡ Err HostFault.TooLong) ↔ (limit < vec_len bytes.old + length piece.now) }
     ensures never_missing { IfErr result (λ fault. fault ≢ HostFault.Missing) }
+    ensures never_device { IfErr result (λ fault. fault ≢ HostFault.Device) }
 {
     if piece.len() > limit - bytes.len() {
         return Err(HostFault::TooLong);

@@ -146,7 +146,7 @@ pub trait Host {
     /// What prevents the writing of the file or the folder at this path, as far as the host knows.
     /// It gives the reason for the last call that failed, and changes nothing.
     fn write_obstacle(&self, path: &str) -> Option<WriteObstacle>
-        ensures obstacle { LooksToWrite (state self.now).files result };
+        ensures obstacle { LooksToWrite (state self.now).files path.now result };
 
     /// Makes a folder. `Exists` comes if something is at the path already, and `Device` if the
     /// system fails, for example because the folder around it is missing.

@@ -16,6 +16,7 @@ mod look;
 mod medium;
 mod new_entry;
 mod new_file;
+mod open_options;
 mod outcomes;
 mod output;
 mod process_status;

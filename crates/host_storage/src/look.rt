@@ -3,8 +3,9 @@
 ghost use Rattle.std.specs.Prelude.{◌≡◌, ◌≢◌, ◌⊎◌, ◌↔◌, Some};
 
 use crate::host::{Obstacle, WriteObstacle};
+use crate::open_options::to_append;
 use crate::outcomes::by_kind;
-use std::fs::{self, File, OpenOptions};
+use std::fs::{self, File};
 use std::io::ErrorKind;
 use std::rt::Files;
 
@@ -45,7 +46,7 @@ fn obstacle_of(kind: ErrorKind) -> Option<Obstacle>
 pub fn write_obstacle<R: Files>(rt: &R, path: &str) -> Option<WriteObstacle> {
     let found = match by_kind(fs::metadata(rt, path)) {
         Ok(found) => found,
-        Err(ErrorKind::NotFound) => return None,
+        Err(ErrorKind::NotFound) => return missing_folder(rt, path),
         Err(kind) => return write_obstacle_of(kind),
     };
     if found.is_dir() {
@@ -54,9 +55,21 @@ pub fn write_obstacle<R: Files>(rt: &R, path: &str) -> Option<WriteObstacle> {
     if !found.is_file() {
         return None;
     }
-    match by_kind(OpenOptions::new().append(true).open(rt, path)) {
+    match by_kind(to_append().open(rt, path)) {
         Ok(_) => None,
         Err(kind) => write_obstacle_of(kind),
+    }
+}
+
+/// That the folder of this path is not there, if it isn't.
+fn missing_folder<R: Files>(rt: &R, path: &str) -> Option<WriteObstacle> {
+    let (folder, _name) = path.rsplit_once('/')?;
+    if folder.is_empty() {
+        return None;
+    }
+    match by_kind(fs::metadata(rt, folder)) {
+        Err(ErrorKind::NotFound) => Some(WriteObstacle::NoFolder),
+        _ => None,
     }
 }
 

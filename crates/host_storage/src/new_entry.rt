@@ -1,12 +1,14 @@
 //! New files and folders of the system, which replace nothing, and files that grow.
 
-ghost use Rattle.std.specs.Prelude.{◌≡◌, ◌≢◌, ◌↔◌, Err};
+ghost use Rattle.std.specs.Prelude.{◌≡◌, ◌≢◌, ◌↔◌, Ok, Err, MatchResult};
+ghost use Rattle.std.specs.IoError.{error_kind};
 
 use crate::host::FolderFault;
 use crate::new_file::write_to_end;
+use crate::open_options::to_append;
 use crate::standard_streams::is_same_file;
 use crate::writes::Writes;
-use std::fs::{self, File, OpenFile, OpenOptions};
+use std::fs::{self, File, OpenFile};
 use std::io::{self, ErrorKind};
 use std::path::Path;
 use std::rt::Files;
@@ -68,7 +70,7 @@ fn try_extend<R: Files>(rt: &R, writes: &Writes, path: &str, bytes: &[u8]) -> io
     if !found.is_file() {
         return Err(io::Error::from(ErrorKind::InvalidInput));
     }
-    let mut file = OpenOptions::new().append(true).open(rt, path)?;
+    let mut file = to_append().open(rt, path)?;
     let opened = file.metadata()?;
     if !is_same_file(&opened, &found) {
         return Err(io::Error::from(ErrorKind::InvalidInput));
@@ -95,7 +97,9 @@ pub fn rename_folder<R: Files>(
 }
 
 /// The outcome of a call that makes something, with the fault for which nothing was made.
-fn unless_refused<T>(writes: &Writes, outcome: io::Result<T>) -> Result<T, FolderFault> {
+fn unless_refused<T>(writes: &Writes, outcome: io::Result<T>) -> Result<T, FolderFault>
+    ensures { MatchResult outcome (λ made. result ≡ Ok made) (λ error. (error_kind error ≡ ErrorKind.AlreadyExists → result ≡ Err FolderFault.Exists) × (error_kind error ≢ ErrorKind.AlreadyExists → result ≡ Err FolderFault.Device)) }
+{
     match outcome {
         Ok(made) => Ok(made),
         Err(error) => Err(refused(writes, error.kind())),

@@ -9,17 +9,14 @@ ghost use Rattle.host_storage.specs.System.{draft_name, folder_path};
 use crate::access::keep_access;
 use crate::draft::Draft;
 use crate::host::HostFault;
+use crate::open_options::to_make;
 use crate::outcomes::{by_kind, or_device};
 use std::alloc::{AllocError, Global};
-use std::fs::{self, File, OpenFile, OpenOptions};
+use std::fs::{self, File, OpenFile};
 use std::io::{self, ErrorKind, Write};
 use std::os::fd::AsFd;
-use std::os::unix::fs::OpenOptionsExt;
 use std::path::{Path, PathBuf};
 use std::rt::Files;
-
-/// The permissions of a draft until it has those of the file that it replaces.
-const FOR_ITS_OWNER: u32 = 0o600;
 
 /// Why no draft was made.
 pub enum DraftFault {
@@ -50,7 +47,7 @@ impl<'a, R: Files> NewFile<'a, R> {
     ) -> Result<NewFile<'a, R>, HostFault>
         ensures { IfErr result IsOfDeviceOrMemory }
     {
-        match open_beside(rt, alloc, old_path, FOR_ITS_OWNER) {
+        match open_beside(rt, alloc, old_path, for_its_owner()) {
             Ok((new, new_path)) => Ok(NewFile {
                 rt,
                 old,
@@ -91,6 +88,13 @@ where
     }
 }
 
+/// The permissions of a draft until it has those of the file that it replaces.
+fn for_its_owner() -> u32
+    ensures { result ≡ 0o600 }
+{
+    0o600
+}
+
 /// Writes these bytes to a file, and flushes it.
 pub fn write_to_end<F: Write>(file: &mut F, bytes: &[u8]) -> io::Result<()>
     ensures { OnOk result (Appends (F.contents file.old) (F.contents file.new) bytes.now) }
@@ -128,11 +132,7 @@ fn draft_path(alloc: Global, path: Path<'_>, number: u64) -> Result<PathBuf, All
 
 /// Makes a file under a name that no file has.
 fn open_new<R: Files>(rt: &R, path: Path<'_>, mode: u32) -> io::Result<R::File> {
-    OpenOptions::new()
-        .write(true)
-        .create_new(true)
-        .mode(mode)
-        .open(rt, path)
+    to_make(mode).open(rt, path)
 }
 
 /// Waits until the disk has the folder's new entry, if the system offers that. The file is whole

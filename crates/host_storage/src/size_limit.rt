@@ -1,7 +1,7 @@
 //! The limit of the system on the size of a file. A write at the limit ends the process by a
 //! signal, so the limit is looked up before a write.
 
-ghost use Rattle.std.specs.Prelude.{◌≡◌};
+ghost use Rattle.std.specs.Prelude.{◌≡◌, ◌^◌, ◌-◌, nat_le, unwrap_or};
 ghost use Rattle.host_storage.specs.System.{is_at_limit};
 
 use crate::process_status::number_after;
@@ -15,19 +15,19 @@ use std::rt::Files;
 pub struct SizeLimit(Cell<Option<u64>>);
 
 impl SizeLimit {
-    /// The number of bytes: the greatest number if there is no limit, or the system does not say.
+    /// The number of bytes that are allowed.
     fn bytes<R: Files>(&self, rt: &R) -> u64 {
         if let Some(bytes) = self.0.get() {
             return bytes;
         }
-        let bytes = number_after(rt, "/proc/self/limits", "Max file size").unwrap_or(u64::MAX);
+        let bytes = limit_of(number_after(rt, "/proc/self/limits", "Max file size"));
         self.0.set(Some(bytes));
         bytes
     }
 
     /// Whether a file can have this many bytes.
     pub fn holds<R: Files>(&self, rt: &R, length: u64) -> bool {
-        length <= self.bytes(rt)
+        is_within_limit(self.bytes(rt), length)
     }
 
     /// Whether a standard stream goes to a file that has reached the limit: a write to it would end
@@ -44,6 +44,21 @@ impl SizeLimit {
             _ => false,
         }
     }
+}
+
+/// The number of bytes that the system shows, or the greatest number if it shows none: there is no
+/// limit, or it does not say.
+fn limit_of(found: Option<u64>) -> u64
+    ensures { result ≡ unwrap_or found (2 ^ 64 - 1) }
+{
+    found.unwrap_or(u64::MAX)
+}
+
+/// Whether a limit allows a file of this length.
+fn is_within_limit(limit: u64, length: u64) -> bool
+    ensures { result ≡ nat_le length limit }
+{
+    length <= limit
 }
 
 /// Whether a file of this length, in which the next byte goes to a position, has reached the limit.

@@ -1,6 +1,6 @@
 //! The standard streams of the process, and the files that are open as them.
 
-ghost use Rattle.std.specs.Prelude.{◌≡◌};
+ghost use Rattle.std.specs.Prelude.{◌≡◌, ◌≢◌, ◌↔◌, true};
 ghost use Rattle.host_storage.specs.System.{position_path, stream_path};
 
 use crate::process_status::number_after;
@@ -86,9 +86,16 @@ impl StandardStreams {
     pub fn may_have<R: Files>(&self, rt: &R, name: &str) -> bool {
         match fs::metadata(rt, name) {
             Ok(file) => self.have(&file),
-            Err(error) => error.kind() != ErrorKind::NotFound,
+            Err(error) => may_be_open(error.kind()),
         }
     }
+}
+
+/// Whether a file for which the system gives this error may be open: any but one that is not there.
+fn may_be_open(kind: ErrorKind) -> bool
+    ensures { (result ≡ true) ↔ (kind ≢ ErrorKind.NotFound) }
+{
+    kind != ErrorKind::NotFound
 }
 
 /// Whether two names lead to one file.

@@ -4,6 +4,8 @@
 //! and loses its own. A file system without hard links, or one that does not accept the link, has
 //! the file written at its path.
 
+ghost use Rattle.std.specs.Prelude.{◌≡◌};
+
 use crate::host::FolderFault;
 use crate::new_entry::{make_file, refused};
 use crate::new_file::{DraftFault, open_beside, sync_folder_of, write_to_end};
@@ -13,9 +15,6 @@ use std::fs::{self, OpenFile};
 use std::io::ErrorKind;
 use std::path::Path;
 use std::rt::Files;
-
-/// The permissions that a new file gets, as far as those who run the process allow them.
-const FOR_ALL: u32 = 0o666;
 
 /// Makes a file of these bytes, if the limit allows a file of this length. The draft is on the disk
 /// before it gets the path.
@@ -29,7 +28,7 @@ pub fn make_whole_file<R: Files>(
     if !writes.limit.holds(rt, bytes.len() as u64) {
         return Err(FolderFault::Device);
     }
-    match open_beside(rt, alloc, path, FOR_ALL) {
+    match open_beside(rt, alloc, path, for_all()) {
         Ok((file, draft)) => {
             let outcome = fill_and_link(rt, writes, file, draft.as_path(), path, bytes);
             // The file has its path by now, or the call has failed. No more can be done if the
@@ -41,6 +40,13 @@ pub fn make_whole_file<R: Files>(
         Err(DraftFault::Memory(_)) => make_file(rt, writes, path, bytes),
         Err(DraftFault::System(kind)) => Err(refused(writes, kind)),
     }
+}
+
+/// The permissions that a new file gets, as far as those who run the process allow them.
+fn for_all() -> u32
+    ensures { result ≡ 0o666 }
+{
+    0o666
 }
 
 /// Writes these bytes to a draft, waits until the disk has them, and gives the draft this path.

@@ -3,30 +3,26 @@
 //! What a name leads to is found first: nothing, a file, or something that isn't one. A file is
 //! replaced by a new one beside it, so that a store that fails or is cut off leaves the old one.
 
-ghost use Rattle.std.specs.Prelude.{◌≡◌, ◌↔◌, ◌⊎◌, true, false, Some, IfErr};
+ghost use Rattle.std.specs.Prelude.{◌≡◌, ◌↔◌, ◌⊎◌, true, false, Some, IfErr, IsTrue, MatchOption};
+ghost use Rattle.std.specs.Fs.{IsSymlink, file_type};
 ghost use Rattle.host_storage.specs.Host.{IsOfDeviceOrMemory};
 
 use crate::draft::replace_by;
 use crate::host::{FolderFault, HostFault};
 use crate::new_entry::make_file;
 use crate::new_file::{NewFile, write_to_end};
+use crate::open_options::to_write;
 use crate::outcomes::{by_kind, or_device};
 use crate::process_status::device_of_processes;
 use crate::standard_streams::{StandardStreams, is_same_file};
 use crate::writes::Writes;
 use std::alloc::{AllocError, Global};
-use std::fs::{self, Metadata, OpenFile, OpenOptions};
+use std::fs::{self, Metadata, OpenFile};
 use std::io::{ErrorKind, Write};
 use std::os::fd::AsFd;
 use std::os::unix::fs::MetadataExt;
 use std::path::{AsPath, PathBuf};
 use std::rt::Files;
-
-/// How many links are followed from a name: as many as the system follows.
-const MOST_LINKS: u32 = 40;
-
-/// How often a store looks again for a file that another one has replaced meanwhile.
-const MOST_TRIES: u32 = 1_000;
 
 /// The end of the links from a name, and what is there. A link there is one of the system's own.
 #[derive(Drop)]
@@ -63,12 +59,19 @@ where
     R::File: AsFd,
     ensures { IfErr result IsOfDeviceOrMemory }
 {
-    for _ in 0..MOST_TRIES {
+    for _ in 0..most_tries() {
         if try_store(rt, alloc, writes, streams, name, bytes)? {
             return Ok(());
         }
     }
     Err(HostFault::Device)
+}
+
+/// How often a store looks again for a file that another one has replaced meanwhile.
+fn most_tries() -> u32
+    ensures { result ≡ 1000 }
+{
+    1_000
 }
 
 /// Stores to the file of this name, unless others change what the name leads to between two looks.
@@ -89,7 +92,7 @@ where
         return Err(HostFault::Device);
     }
     // The system opens the file, by its own rules for links.
-    let opened = by_kind(OpenOptions::new().write(true).open(rt, name));
+    let opened = by_kind(to_write().open(rt, name));
     let end = end_of_links(rt, alloc, name)?;
     store_at(rt, alloc, writes, opened, &end, bytes)
 }
@@ -154,7 +157,9 @@ where
 
 impl End {
     /// Whether the links end at one of the system's own.
-    fn is_link(&self) -> bool {
+    fn is_link(&self) -> bool
+        ensures { MatchOption self.now.found (result ≡ false) (λ found. IsTrue result ↔ IsSymlink (file_type found)) }
+    {
         match &self.found {
             Some(found) => found.is_symlink(),
             None => false,
@@ -221,7 +226,7 @@ fn end_of_links<R: Files>(rt: &R, alloc: Global, name: &str) -> Result<End, Host
 {
     let processes = device_of_processes(rt);
     let mut path = PathBuf::from_str(alloc, name).map_err(HostFault::Memory)?;
-    for _ in 0..=MOST_LINKS {
+    for _ in 0..=most_links() {
         let found = match by_kind(fs::symlink_metadata(rt, path.as_path())) {
             Ok(found) => Some(found),
             Err(ErrorKind::NotFound) => None,
@@ -237,6 +242,13 @@ fn end_of_links<R: Files>(rt: &R, alloc: Global, name: &str) -> Result<End, Host
         path = linked(rt, alloc, path)?;
     }
     Err(HostFault::Device)
+}
+
+/// How many links are followed from a name: as many as the system follows.
+fn most_links() -> u32
+    ensures { result ≡ 40 }
+{
+    40
 }
 
 /// Whether a link on this device is one of the system's own, such as those for the streams of a

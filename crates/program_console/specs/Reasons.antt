@@ -56,10 +56,10 @@ reason_of_write_obstacle write_obstacles.LongName = NameTooLong
 reason_of_write_obstacle write_obstacles.ReadOnly = ReadOnly
 reason_of_write_obstacle write_obstacles.Full = Full
 
--- why a write was refused, as far as a host with these files can say
-abbrev pub IsWriteReason : Option Files → Option Reason → Type 0
-IsWriteReason files reason =
-    (seen : Option WriteObstacle) × LooksToWrite files seen × (reason ≡ option_map reason_of_write_obstacle seen)
+-- why a write at this path was refused, as far as a host with these files can say
+abbrev pub IsWriteReason : Option Files → List ℕ → Option Reason → Type 0
+IsWriteReason files path reason =
+    (seen : Option WriteObstacle) × LooksToWrite files path seen × (reason ≡ option_map reason_of_write_obstacle seen)
 
 -- a line with the reason in brackets before its line feed; an empty line stays empty
 abbrev pub with_reason : Reason → List ℕ → List ℕ

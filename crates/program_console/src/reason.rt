@@ -125,7 +125,7 @@ impl From<WriteObstacle> for Reason {
 /// Returns why the last write, which was refused, could not be done at this path, as far as its
 /// host can say.
 pub fn reason_unwritten<H: Host>(host: &H, path: &str) -> Option<Reason>
-    ensures { IsWriteReason (H.state host.now).files result }
+    ensures { IsWriteReason (H.state host.now).files path.now result }
 {
     Some(Reason::from(host.write_obstacle(path)?))
 }

@@ -1,5 +1,5 @@
 -- What is wrong with a refused line, in plain words.
-use Rattle.std.specs.Prelude.{ℕ, Bool, true, false, Option, Some, ◌==◌, ◌-◌, nat_lt, if◌then◌else◌, List, [], ◌∷◌, ◌++◌, map, flat_map, codes}
+use Rattle.std.specs.Prelude.{ℕ, Bool, true, false, Option, Some, None, ◌==◌, ◌-◌, nat_lt, if◌then◌else◌, List, [], ◌∷◌, ◌++◌, map, flat_map, codes}
 use Rattle.std.specs.Option.{option_map_or}
 use Rattle.d64_image.specs.Disk.{Bytes}
 use Rattle.script_text.specs.Number.{number_of}
@@ -13,6 +13,8 @@ use Rattle.script_advice.specs.Faults.{basic_fault, directory_fault}
 use Rattle.cbm_text.specs.ListFault.{list_fault_text}
 use Rattle.host_storage.specs.declared.host.HostFault.{HostFault}
 use Rattle.host_storage.specs.declared.host.HostFault.TheVariants.{Missing, TooLong}
+use Rattle.program_console.specs.Reasons.{reason_text}
+use Rattle.program_console.specs.declared.reason.Reason.{Reason}
 use Rattle.script_lines.specs.declared.line_command.LineCommand.{LineCommand}
 use Rattle.script_lines.specs.declared.line_command.LineCommand.TheVariants.{Block, BlockRead, BlockWrite, Crunch, Delete, Format, Keep, Name, Petcat, Read, Rename, Save, ShowText, Undelete, Write}
 use Rattle.script_advice.specs.declared.advice.Advice.{Advice}
@@ -174,50 +176,62 @@ reads_host_file command = false
 abbrev pub unusable : Option LineCommand → Bytes
 unusable command = if reads_host_file command then codes "\" cannot be read" else codes "\" cannot be written"
 
--- the host file of a command has this fault
-abbrev pub host_fault : Option LineCommand → HostFault → Piece → List Piece
-host_fault command Missing file = one_piece (codes "the host has no file \"") file (codes "\"")
-host_fault command TooLong file = one_piece (codes "the file \"") file (codes "\" has more than 1048576 bytes")
-host_fault command fault file = one_piece (codes "the file \"") file (unusable command)
+-- the same, before the reason in brackets
+abbrev pub unusable_for : Option LineCommand → Bytes
+unusable_for command = if reads_host_file command then codes "\" cannot be read (" else codes "\" cannot be written ("
 
--- a line whose host file has this fault
-abbrev pub wrong_host_file : LineParts → Option LineCommand → HostFault → List Piece
-wrong_host_file parts command fault =
-    if parts.count == 1 then plain_pieces (codes "the image file cannot be written; save HOST stores the image elsewhere") else host_fault command fault (host_piece parts command)
+-- a command cannot read or write its host file, for this reason, if one is known
+abbrev pub unusable_file : Option LineCommand → Piece → Option Reason → List Piece
+unusable_file command file None = one_piece (codes "the file \"") file (unusable command)
+unusable_file command file (Some reason) = two_pieces (codes "the file \"") file (unusable_for command) (Text (reason_text reason)) (codes ")")
+
+-- the host file of a command has this fault, for this reason, if one is known
+abbrev pub host_fault : Option LineCommand → HostFault → Option Reason → Piece → List Piece
+host_fault command Missing reason file = one_piece (codes "the host has no file \"") file (codes "\"")
+host_fault command TooLong reason file = one_piece (codes "the file \"") file (codes "\" has more than 1048576 bytes")
+host_fault command fault reason file = unusable_file command file reason
+
+-- a line whose host file has this fault, for this reason, if one is known
+abbrev pub wrong_host_file : LineParts → Option LineCommand → HostFault → Option Reason → List Piece
+wrong_host_file parts command fault reason =
+    if parts.count == 1 then plain_pieces (codes "the image file cannot be written; save HOST stores the image elsewhere")
+    else host_fault command fault reason (host_piece parts command)
 
 -- a line that names a file of a type that its command does not take
 abbrev pub wrong_type : LineParts → Option LineCommand → List Piece
 wrong_type parts (Some Write) = one_piece (codes "the type in \"") Second (codes "\" cannot be written; p, s and u can be")
 wrong_type parts command = one_piece (codes "the file \"") (name_of_piece (file_piece parts command)) (codes "\" has the wrong type for this command")
 
--- the advice about a line of a command that was refused with a status
-abbrev pub advice_by : LineParts → Option LineCommand → Status → List Piece
-advice_by parts command SyntaxError = wrong_arguments parts command
-advice_by parts command UnknownCommand = two_pieces (codes "there is no command \"") Command (codes "\"") (Text (hint_text parts.command)) []
-advice_by parts command LongLine = plain_pieces (codes "a line has at most 1024 characters")
-advice_by parts command BadName = wrong_name parts command
-advice_by parts command MissingArgument = missing_argument parts command
-advice_by parts command WriteFileOpen = one_piece (codes "the file \"") First (codes "\" was never closed, so it cannot be read; d64sh extract --part writes what is there")
-advice_by parts command FileNotFound = missing_file command
-advice_by parts command FileExists = one_piece (codes "the disk already has a file named \"") (name_of_piece (file_piece parts command)) (codes "\"")
-advice_by parts command FileTypeMismatch = wrong_type parts command
-advice_by parts command (IllegalBlock track sector) = wrong_block parts command
-advice_by parts command (DirectoryError fault) = one_piece (codes "the disk is damaged: ") (Text (directory_fault fault)) (codes "; d64sh check shows where")
-advice_by parts command DiskFull = plain_pieces (codes "there is not enough space on the disk or in its directory")
-advice_by parts command (HostFile fault) = wrong_host_file parts command fault
-advice_by parts command NothingToUndo = plain_pieces (codes "there is nothing to undo")
-advice_by parts command NothingToRedo = plain_pieces (codes "there is nothing to redo")
-advice_by parts command NotOneBlock = one_piece (codes "the file \"") First (codes "\" is not 256 bytes long")
-advice_by parts command (BasicText fault) = two_pieces (codes "the text \"") First (codes "\" is not a program: ") (Text (basic_fault fault)) []
-advice_by parts command (NotBasic fault) = two_pieces (codes "the file \"") First (codes "\" is not a BASIC program: ") (Text (list_fault_text fault)) []
-advice_by parts command FileLost = one_piece (codes "what was deleted as \"") First (codes "\" is lost, and cannot be brought back")
-advice_by parts command OutOfMemory = plain_pieces (codes "out of memory")
-advice_by parts command Done = plain_pieces []
-advice_by parts command (FilesScratched count) = plain_pieces []
+-- the advice about a line of a command that was refused with a status, for this reason, if one is
+-- known
+abbrev pub advice_by : LineParts → Option LineCommand → Status → Option Reason → List Piece
+advice_by parts command SyntaxError reason = wrong_arguments parts command
+advice_by parts command UnknownCommand reason = two_pieces (codes "there is no command \"") Command (codes "\"") (Text (hint_text parts.command)) []
+advice_by parts command LongLine reason = plain_pieces (codes "a line has at most 1024 characters")
+advice_by parts command BadName reason = wrong_name parts command
+advice_by parts command MissingArgument reason = missing_argument parts command
+advice_by parts command WriteFileOpen reason = one_piece (codes "the file \"") First (codes "\" was never closed, so it cannot be read; d64sh extract --part writes what is there")
+advice_by parts command FileNotFound reason = missing_file command
+advice_by parts command FileExists reason = one_piece (codes "the disk already has a file named \"") (name_of_piece (file_piece parts command)) (codes "\"")
+advice_by parts command FileTypeMismatch reason = wrong_type parts command
+advice_by parts command (IllegalBlock track sector) reason = wrong_block parts command
+advice_by parts command (DirectoryError fault) reason = one_piece (codes "the disk is damaged: ") (Text (directory_fault fault)) (codes "; d64sh check shows where")
+advice_by parts command DiskFull reason = plain_pieces (codes "there is not enough space on the disk or in its directory")
+advice_by parts command (HostFile fault) reason = wrong_host_file parts command fault reason
+advice_by parts command NothingToUndo reason = plain_pieces (codes "there is nothing to undo")
+advice_by parts command NothingToRedo reason = plain_pieces (codes "there is nothing to redo")
+advice_by parts command NotOneBlock reason = one_piece (codes "the file \"") First (codes "\" is not 256 bytes long")
+advice_by parts command (BasicText fault) reason = two_pieces (codes "the text \"") First (codes "\" is not a program: ") (Text (basic_fault fault)) []
+advice_by parts command (NotBasic fault) reason = two_pieces (codes "the file \"") First (codes "\" is not a BASIC program: ") (Text (list_fault_text fault)) []
+advice_by parts command FileLost reason = one_piece (codes "what was deleted as \"") First (codes "\" is lost, and cannot be brought back")
+advice_by parts command OutOfMemory reason = plain_pieces (codes "out of memory")
+advice_by parts command Done reason = plain_pieces []
+advice_by parts command (FilesScratched count) reason = plain_pieces []
 
--- the advice about a line with these arguments that was refused with a status
-abbrev pub advice : LineParts → Status → List Piece
-advice parts status = advice_by parts (command_named parts.command) status
+-- the advice about a line with these arguments that was refused with a status, for this reason, if
+-- one is known
+abbrev pub advice : LineParts → Status → Option Reason → List Piece
+advice parts status reason = advice_by parts (command_named parts.command) status reason
 
 -- the advice as bytes, with the line end
 abbrev pub advice_text : LineParts → List Piece → Bytes

@@ -2,6 +2,7 @@ pub mod LineParts
 pub mod Hint
 pub mod Faults
 pub mod Advice
+pub mod HostReason
 pub mod Found
 pub mod Lost
 pub mod TextCause

@@ -1,5 +1,5 @@
 -- What is wrong with the text of a refused `crunch`.
-use Rattle.std.specs.Prelude.{◌≡◌, nat_eq, ◌&&◌, Bool, not, ◌∷◌, ◌++◌, List, Ok, codes}
+use Rattle.std.specs.Prelude.{◌≡◌, nat_eq, ◌&&◌, Bool, true, not, ◌∷◌, ◌++◌, List, Ok, codes}
 use Rattle.std.specs.List.{starts_with}
 use Rattle.d64_image.specs.Disk.{Bytes}
 use Rattle.cbm_text.specs.Causes.{cause_text}
@@ -27,9 +27,10 @@ HasCauseFirst lines fault cause =
 abbrev pub IsFirstCause : Bytes → BasicFault → Cause → Type 0
 IsFirstCause text fault cause = (lines : List FaultyLine) × AreFaultyIn program_start text lines × HasCauseFirst lines fault cause
 
--- this is wrong with the text that the host has under a name, which was refused with a status
+-- this is wrong with the text that the host has under a name, which was refused with a status, if it
+-- can be read again
 abbrev pub IsFoundCause : HostState → Bytes → Status → Cause → Type 0
-IsFoundCause host name (BasicText fault) cause = (text : Bytes) × Fetches host.files name host_file_limit (Ok text) × IsFirstCause text fault cause
+IsFoundCause host name (BasicText fault) cause = (can_be_read_again name ≡ true) × (text : Bytes) × Fetches host.files name host_file_limit (Ok text) × IsFirstCause text fault cause
 IsFoundCause host name status cause = ⊥
 
 -- the beginning of a line, and then what is wrong with the text of this name

@@ -1,11 +1,12 @@
 //! What is wrong with a refused line, in plain words.
 ghost use Rattle.std.specs.Prelude.{◌≡◌};
-ghost use Rattle.script_advice.specs.Advice.{advice, file_piece, host_piece, missing_argument, missing_file, most_of, name_of_piece, name_part, not_number, one_piece, piece_of, pieces, plain_pieces, piece_bytes, surplus_piece, two_pieces, unusable, usage_of, wrong_block, wrong_host_file, wrong_line, wrong_name, wrong_type, wrong_arguments};
+ghost use Rattle.script_advice.specs.Advice.{advice, file_piece, host_piece, missing_argument, missing_file, most_of, name_of_piece, name_part, not_number, one_piece, piece_of, pieces, plain_pieces, piece_bytes, reads_host_file, surplus_piece, two_pieces, unusable, unusable_file, unusable_for, usage_of, wrong_block, wrong_host_file, wrong_line, wrong_name, wrong_type, wrong_arguments};
 
 use crate::faults::{basic_fault, directory_fault};
 use crate::hint::hint_text;
 use crate::line_parts::LineParts;
 use host_storage::HostFault;
+use program_console::Reason;
 use script_lines::arguments::at_comma;
 use script_lines::{LineCommand, Status};
 use script_text::number::number;
@@ -106,9 +107,10 @@ impl Advice {
         }
     }
 
-    /// The advice about a line with these arguments that was refused with this status.
-    pub(crate) fn of(parts: &LineParts<'_>, status: &Status) -> Advice
-        ensures { pieces result ≡ advice parts.now status.now }
+    /// The advice about a line with these arguments that was refused with this status, for this
+    /// reason, if one is known.
+    pub(crate) fn of(parts: &LineParts<'_>, status: &Status, reason: Option<Reason>) -> Advice
+        ensures { pieces result ≡ advice parts.now status.now reason }
     {
         let command = LineCommand::named(parts.command);
         match *status {
@@ -144,7 +146,7 @@ impl Advice {
             Status::DiskFull => Advice::plain(
                 b"there is not enough space on the disk or in its directory",
             ),
-            Status::HostFile(fault) => wrong_host_file(parts, command, fault),
+            Status::HostFile(fault) => wrong_host_file(parts, command, fault, reason),
             Status::NothingToUndo => Advice::plain(b"there is nothing to undo"),
             Status::NothingToRedo => Advice::plain(b"there is nothing to redo"),
             Status::NotOneBlock => Advice::one(
@@ -229,7 +231,7 @@ fn file_piece(parts: &LineParts<'_>, command: Option<LineCommand>) -> Piece
 }
 
 /// The argument of a line that is the name of a file of the host.
-fn host_piece(parts: &LineParts<'_>, command: Option<LineCommand>) -> Piece
+pub(crate) fn host_piece(parts: &LineParts<'_>, command: Option<LineCommand>) -> Piece
     ensures { piece_of result ≡ host_piece parts.now command }
 {
     match command {
@@ -288,9 +290,14 @@ fn wrong_arguments(parts: &LineParts<'_>, command: Option<LineCommand>) -> Advic
     }
 }
 
-/// A line whose host file has this fault.
-fn wrong_host_file(parts: &LineParts<'_>, command: Option<LineCommand>, fault: HostFault) -> Advice
-    ensures { pieces result ≡ wrong_host_file parts.now command fault }
+/// A line whose host file has this fault, for this reason, if one is known.
+fn wrong_host_file(
+    parts: &LineParts<'_>,
+    command: Option<LineCommand>,
+    fault: HostFault,
+    reason: Option<Reason>,
+) -> Advice
+    ensures { pieces result ≡ wrong_host_file parts.now command fault reason }
 {
     if parts.count == 1 {
         return Advice::plain(
@@ -303,9 +310,23 @@ fn wrong_host_file(parts: &LineParts<'_>, command: Option<LineCommand>, fault: H
         HostFault::TooLong => {
             Advice::one(b"the file \"", piece, b"\" has more than 1048576 bytes")
         }
-        HostFault::Device | HostFault::Memory(_) => {
-            Advice::one(b"the file \"", piece, unusable(command))
-        }
+        HostFault::Device | HostFault::Memory(_) => unusable_file(command, piece, reason),
+    }
+}
+
+/// A line whose command cannot read or write its host file, for this reason, if one is known.
+fn unusable_file(command: Option<LineCommand>, file: Piece, reason: Option<Reason>) -> Advice
+    ensures { pieces result ≡ unusable_file command (piece_of file) reason }
+{
+    match reason {
+        None => Advice::one(b"the file \"", file, unusable(command)),
+        Some(reason) => Advice::two(
+            b"the file \"",
+            file,
+            unusable_for(command),
+            Piece::Text(reason.text()),
+            b")",
+        ),
     }
 }
 
@@ -313,12 +334,32 @@ fn wrong_host_file(parts: &LineParts<'_>, command: Option<LineCommand>, fault: H
 fn unusable(command: Option<LineCommand>) -> &'static [u8]
     ensures { result.now ≡ unusable command }
 {
-    match command {
-        Some(LineCommand::BlockWrite | LineCommand::Crunch | LineCommand::Write) => {
-            b"\" cannot be read"
-        }
-        _ => b"\" cannot be written",
+    if reads_host_file(command) {
+        b"\" cannot be read"
+    } else {
+        b"\" cannot be written"
     }
+}
+
+/// The same, before the reason in brackets.
+fn unusable_for(command: Option<LineCommand>) -> &'static [u8]
+    ensures { result.now ≡ unusable_for command }
+{
+    if reads_host_file(command) {
+        b"\" cannot be read ("
+    } else {
+        b"\" cannot be written ("
+    }
+}
+
+/// Whether a command reads its host file.
+pub(crate) fn reads_host_file(command: Option<LineCommand>) -> bool
+    ensures { result ≡ reads_host_file command }
+{
+    matches!(
+        command,
+        Some(LineCommand::BlockWrite | LineCommand::Crunch | LineCommand::Write)
+    )
 }
 
 /// A line that names a file of a type that its command does not take.

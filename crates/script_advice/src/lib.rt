@@ -6,6 +6,7 @@ mod advice;
 mod faults;
 mod found;
 mod hint;
+mod host_reason;
 mod line_parts;
 mod lost;
 mod near;

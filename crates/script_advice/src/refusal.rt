@@ -7,6 +7,7 @@ ghost use Rattle.script_advice.specs.Advice.{advice_text, pieces};
 ghost use Rattle.script_advice.specs.Refusal.{IsCauseLine, MaySay};
 
 use crate::advice::Advice;
+use crate::host_reason::host_reason;
 use crate::line_parts::LineParts;
 use crate::lost::lost_line;
 use crate::text_cause::text_line;
@@ -18,8 +19,9 @@ use std::io::Write;
 
 /// Writes, after this start, what is wrong with a line with these arguments that was refused with
 /// this status and left this image: what is found to be wrong with its text or its deleted file, if
-/// it was refused for that and there is memory, or else the advice. The host is asked for the text
-/// of a refused `crunch` alone.
+/// it was refused for that and there is memory, or else the advice, with the reason for which a host
+/// file cannot be read or written, if the host can say it. The host is asked for the text of a
+/// refused `crunch` alone, and for that reason.
 ///
 /// The error is the output's.
 pub fn write_refusal<W: Write, H: Host>(
@@ -36,9 +38,10 @@ pub fn write_refusal<W: Write, H: Host>(
         × Writes (account_at W.contents output.old) (account_at W.contents output.new) said }
     ensures files_kept { (H.state host.new).files ≡ (H.state host.old).files }
 {
+    let reason = host_reason(host, parts, status);
     match cause_line(alloc, host, start, parts.first, status, image) {
         Some(line) => output.write(line.as_slice()),
-        None => write_advice(output, start, parts, Advice::of(parts, status)),
+        None => write_advice(output, start, parts, Advice::of(parts, status, reason)),
     }
 }
 

@@ -1,3 +1,4 @@
+pub mod Commands
 pub mod Kept
 pub mod LineStart
 pub mod Prompt

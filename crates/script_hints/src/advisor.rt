@@ -13,14 +13,16 @@ ghost use Rattle.script_hints.specs.LineStart.{line_start, shown_raw_line};
 ghost use Rattle.script_hints.specs.Observed.{Explains, Remarks, WritesEach, asks_for_help, is_explained, is_remarked, lines_if, named_changes, one_more_line, shown_raw_text, stops_at_refusal};
 ghost use Rattle.script_hints.specs.Kept.{MayBeDefault, effect_of, is_unsaved, kept_after, kept_in, unsaved_line};
 ghost use Rattle.script_hints.specs.Leaving.{IsKeptUnder};
-ghost use Rattle.script_hints.specs.Past.{IsKnownAfter, change_line, command_of, known_line};
+ghost use Rattle.script_hints.specs.Past.{IsPastAfter, change_line, command_of, known_line, makes_change};
+ghost use Rattle.script_hints.specs.Commands.{command_rows};
 ghost use Rattle.script_hints.specs.Prompt.{name_in_prompt, prompt};
+ghost use Rattle.script_hints.specs.Unfit.{IsUnfitLine, fetched_by};
 ghost use Rattle.script_lines.specs.declared.line_command.LineCommand.TheVariants.{Quit, Redo, Undo};
 ghost use Rattle.script_advice.specs.LineParts.{parts_of_line};
 ghost use Rattle.script_advice.specs.Found.{file_count};
 ghost use Rattle.script_advice.specs.Refusal.{MaySay};
 
-use crate::help::ROWS;
+use crate::help::write_rows;
 use crate::kept::{Kept, is_unsaved, kept_after};
 use crate::leaving::keep_session;
 use crate::line_start::line_start;
@@ -118,6 +120,18 @@ impl<'w, W: Write, H: Host> Advisor<'w, W, H> {
         self.is_shown = true;
     }
 
+    /// Notes why no session begins with the file of this name, if that is to be explained: it has
+    /// these bytes, or it can't be read.
+    pub fn note_miss(&mut self, name: &str, contents: Result<&[u8], HostFault>)
+        ensures others { self.new ≡ record self.old { unfit = self.new.unfit } }
+        ensures noted { self.old.is_shown ≡ true → IfSome self.new.unfit (λ line. IsUnfitLine (H.state self.old.host).files name.now (fetched_by (λ bytes. bytes.now) contents.entry) line.items) }
+        ensures unnoted { self.old.is_shown ≡ false → self.new.unfit ≡ self.old.unfit }
+    {
+        if self.is_shown {
+            self.unfit = unfit_line(self.alloc, &self.host, name, contents);
+        }
+    }
+
     /// Says why no session began, if that is known.
     pub fn end_without_session(&mut self)
         ensures lent { self.new.output.writer.ghost_name ≡ self.old.output.writer.ghost_name }
@@ -134,6 +148,7 @@ impl<'w, W: Write, H: Host> Advisor<'w, W, H> {
         ensures kept { self.new.is_typed ≡ true → self.new.kept ≡ Some (kept_in (present_image session.now) (option_copied opening.now.held_in)) }
         ensures name { self.new.is_typed ≡ true → IfSome self.new.name (λ name. name.items ≡ name_in_prompt (option_copied opening.now.home)) }
         ensures counted { self.new.is_typed ≡ true → (self.new.files ≡ file_count (present_image session.now)) × (self.new.done ≡ session.now.cursor) }
+        ensures untyped { self.new.is_typed ≡ false → self.new ≡ record self.old { is_typed = false; is_numbered = self.new.is_numbered } }
     {
         self.is_typed = self.is_terminal && !opening.is_given;
         self.is_numbered = opening.is_given || matches!(opening.refusals, Refusals::Stop);
@@ -145,13 +160,16 @@ impl<'w, W: Write, H: Host> Advisor<'w, W, H> {
         }
     }
 
-    /// Asks for the next line, with this as the present image.
+    /// Asks for the next line if lines are typed, with this as the present image.
     pub fn ask_with(&mut self, image: &Image)
         ensures lent { self.new.output.writer.ghost_name ≡ self.old.output.writer.ghost_name }
-        ensures asked { Writes (account_at W.contents self.old.output) (account_at W.contents self.new.output)
-            (prompt (option_map_or (λ name. name.items) self.old.name (codes "d64sh")) (is_unsaved self.old.kept image.now)) }
-        ensures others { self.new ≡ record self.old { output = self.new.output; is_prompting = true } }
+        ensures asked { WritesEach (account_at W.contents self.old.output) (account_at W.contents self.new.output)
+            (lines_if self.old.is_typed (prompt (option_map_or (λ name. name.items) self.old.name (codes "d64sh")) (is_unsaved self.old.kept image.now))) }
+        ensures others { self.new ≡ record self.old { output = self.new.output; is_prompting = self.old.is_typed || self.old.is_prompting } }
     {
+        if !self.is_typed {
+            return;
+        }
         let is_unsaved = is_unsaved(self.kept, image);
         let _ = write_prompt(&mut self.output, bytes_of(&self.name, b"d64sh"), is_unsaved);
         self.is_prompting = true;
@@ -167,22 +185,22 @@ impl<'w, W: Write, H: Host> Advisor<'w, W, H> {
         session: &Session,
     )
         ensures lent { self.new.output.writer.ghost_name ≡ self.old.output.writer.ghost_name }
-        ensures said { (raw : List ℕ) → HoldsText line.now raw → (refusal remark : List (List ℕ)) × (rows : List ℕ)
+        ensures said { (raw : List ℕ) → HoldsText line.now raw → (refusal remark : List (List ℕ))
             × Explains (is_explained self.old.is_numbered self.old.is_typed raw status.now) (H.state self.old.host) self.old.is_numbered (one_more_line self.old.lines) self.old.first_bytes.items raw status.now (present_image session.now) refusal
             × Remarks (is_remarked self.old.is_numbered self.old.is_typed status.now) raw status.now (present_image session.now) self.old.files remark
             × WritesEach (account_at W.contents self.old.output) (account_at W.contents self.new.output)
-            (refusal ++ (lines_if (self.old.is_typed && asks_for_help raw status.now) rows ++ (remark
+            (refusal ++ (lines_if (self.old.is_typed && asks_for_help raw status.now) command_rows ++ (remark
             ++ named_changes (self.old.is_typed && is_accepted status.now) (command_of raw) (known_line self.old.past session.now.cursor) (known_line self.old.past self.old.done)))) }
         ensures files_kept { (H.state self.new.host).files ≡ (H.state self.old.host).files }
         ensures read { (self.new.lines ≡ one_more_line self.old.lines) × (self.new.is_prompting ≡ false) × (self.new.first_bytes.items ≡ []) }
-        ensures same { (self.new.is_typed ≡ self.old.is_typed) × (self.new.is_numbered ≡ self.old.is_numbered) }
+        ensures others { self.new ≡ record self.old { output = self.new.output; host = self.new.host; lines = self.new.lines; first_bytes = self.new.first_bytes; is_prompting = self.new.is_prompting; is_left = self.new.is_left; kept = self.new.kept; files = self.new.files; done = self.new.done; past = self.new.past } }
         ensures kept { (raw : List ℕ) → HoldsText line.now raw → (self.old.is_typed && is_accepted status.now) ≡ true
             → (found : List ℕ) × MayBeDefault (present_image session.now) (parts_of_line raw).first found × (self.new.kept ≡ kept_after self.old.kept (effect_of (option_copied home.entry) found (parts_of_line raw)) (present_image session.now)) }
         ensures held { (self.old.is_typed && is_accepted status.now) ≡ false → (self.new.kept ≡ self.old.kept) × (self.new.done ≡ self.old.done) × (self.new.is_left ≡ self.old.is_left) }
         ensures files { self.new.files ≡ (if is_remarked self.old.is_numbered self.old.is_typed status.now then file_count (present_image session.now) else self.old.files) }
         ensures done { (self.old.is_typed && is_accepted status.now) ≡ true → self.new.done ≡ session.now.cursor }
-        ensures past { (raw : List ℕ) (other : ℕ) → HoldsText line.now raw → (known_line self.new.past other ≡ known_line self.old.past other)
-            ⊎ IsKnownAfter self.old.past self.old.done (shown_raw_line (shown_raw_text raw [])) other (known_line self.new.past other) }
+        ensures past { (raw : List ℕ) → HoldsText line.now raw → IsPastAfter ((self.old.is_typed && is_accepted status.now) && makes_change (command_of raw) self.old.done session.now.cursor)
+            self.old.done (shown_raw_line (shown_raw_text raw [])) self.old.past self.new.past }
         ensures left { (raw : List ℕ) → HoldsText line.now raw → (self.old.is_typed && is_accepted status.now) ≡ true → command_of raw ≡ Some Quit → self.new.is_left ≡ true }
         ensures stays { (raw : List ℕ) → HoldsText line.now raw → command_of raw ≢ Some Quit → self.new.is_left ≡ self.old.is_left }
     {
@@ -231,11 +249,11 @@ impl<'w, W: Write, H: Host> Advisor<'w, W, H> {
     fn list_commands(&mut self, line: &HeldLine, status: &Status)
         ensures lent { self.new.output.writer.ghost_name ≡ self.old.output.writer.ghost_name }
         ensures others { self.new ≡ record self.old { output = self.new.output } }
-        ensures listed { (raw : List ℕ) → HoldsText line.now raw → (rows : List ℕ)
-            × WritesEach (account_at W.contents self.old.output) (account_at W.contents self.new.output) (lines_if (self.old.is_typed && asks_for_help raw status.now) rows) }
+        ensures listed { (raw : List ℕ) → HoldsText line.now raw
+            → WritesEach (account_at W.contents self.old.output) (account_at W.contents self.new.output) (lines_if (self.old.is_typed && asks_for_help raw status.now) command_rows) }
     {
         if self.is_asked(line, status) {
-            let _ = self.output.write(ROWS);
+            let _ = write_rows(&mut self.output);
         }
     }
 
@@ -284,8 +302,8 @@ impl<'w, W: Write, H: Host> Advisor<'w, W, H> {
         ensures done { (self.old.is_typed && is_accepted status.now) ≡ true → self.new.done ≡ session.now.cursor }
         ensures named { (raw : List ℕ) → HoldsText line.now raw → WritesEach (account_at W.contents self.old.output) (account_at W.contents self.new.output)
             (named_changes (self.old.is_typed && is_accepted status.now) (command_of raw) (known_line self.old.past session.now.cursor) (known_line self.old.past self.old.done)) }
-        ensures past { (raw : List ℕ) (other : ℕ) → HoldsText line.now raw → (known_line self.new.past other ≡ known_line self.old.past other)
-            ⊎ IsKnownAfter self.old.past self.old.done (shown_raw_line (shown_raw_text raw [])) other (known_line self.new.past other) }
+        ensures past { (raw : List ℕ) → HoldsText line.now raw → IsPastAfter ((self.old.is_typed && is_accepted status.now) && makes_change (command_of raw) self.old.done session.now.cursor)
+            self.old.done (shown_raw_line (shown_raw_text raw [])) self.old.past self.new.past }
         ensures left { (raw : List ℕ) → HoldsText line.now raw → (self.old.is_typed && is_accepted status.now) ≡ true → command_of raw ≡ Some Quit → self.new.is_left ≡ true }
         ensures stays { (raw : List ℕ) → HoldsText line.now raw → command_of raw ≢ Some Quit → self.new.is_left ≡ self.old.is_left }
     {
@@ -370,16 +388,16 @@ impl<'w, W: Write, H: Host> Advisor<'w, W, H> {
         line_start(self.alloc, self.lines.saturating_add(1), text).ok()
     }
 
-    /// Ends the session: if its image is not the one that a file has, it says so, and keeps the
-    /// session if it was left by `quit` or by the end of what is typed.
+    /// Ends the session. If lines are typed and its image is not the one that a file has, it says
+    /// so, and keeps the session if it was left by `quit` or by the end of what is typed.
     pub fn end_with(&mut self, home: Option<&str>, session: &Session)
         ensures lent { self.new.output.writer.ghost_name ≡ self.old.output.writer.ghost_name }
-        ensures advised { is_unsaved self.old.kept (present_image session.now) ≡ true → (line : List ℕ)
+        ensures advised { (self.old.is_typed && is_unsaved self.old.kept (present_image session.now)) ≡ true → (line : List ℕ)
             × (((line ≡ unsaved_line) × ((H.state self.new.host).files ≡ (H.state self.old.host).files)) ⊎ ((self.old.is_left ≡ true) × IsKeptUnder (H.state self.old.host) (option_copied home.entry) session.now line (H.state self.new.host)))
             × Writes (account_at W.contents self.old.output) (account_at W.contents self.new.output) line }
-        ensures silent { is_unsaved self.old.kept (present_image session.now) ≡ false → self.new ≡ self.old }
+        ensures silent { (self.old.is_typed && is_unsaved self.old.kept (present_image session.now)) ≡ false → self.new ≡ self.old }
     {
-        if !is_unsaved(self.kept, session.image()) {
+        if !self.leaves_unsaved(session.image()) {
             return;
         }
         let kept = if self.is_left {
@@ -390,6 +408,13 @@ impl<'w, W: Write, H: Host> Advisor<'w, W, H> {
         let _ = self.output.write(bytes_of(&kept, UNSAVED));
     }
 
+    /// Whether lines are typed, and no file has this image.
+    fn leaves_unsaved(&self, image: &Image) -> bool
+        ensures { result ≡ (self.now.is_typed && is_unsaved self.now.kept image.now) }
+    {
+        self.is_typed && is_unsaved(self.kept, image)
+    }
+
     /// Follows a session along an accepted line: its changes, of which it says which one was undone
     /// or redone, and its end.
     fn follow_change(&mut self, line: &HeldLine, session: &Session)
@@ -397,8 +422,8 @@ impl<'w, W: Write, H: Host> Advisor<'w, W, H> {
         ensures others { self.new ≡ record self.old { output = self.new.output; done = session.now.cursor; past = self.new.past; is_left = self.new.is_left } }
         ensures named { (raw : List ℕ) → HoldsText line.now raw → WritesEach (account_at W.contents self.old.output) (account_at W.contents self.new.output)
             (named_changes true (command_of raw) (known_line self.old.past session.now.cursor) (known_line self.old.past self.old.done)) }
-        ensures past { (raw : List ℕ) (other : ℕ) → HoldsText line.now raw → (known_line self.new.past other ≡ known_line self.old.past other)
-            ⊎ IsKnownAfter self.old.past self.old.done (shown_raw_line (shown_raw_text raw [])) other (known_line self.new.past other) }
+        ensures past { (raw : List ℕ) → HoldsText line.now raw → IsPastAfter (makes_change (command_of raw) self.old.done session.now.cursor)
+            self.old.done (shown_raw_line (shown_raw_text raw [])) self.old.past self.new.past }
         ensures left { (raw : List ℕ) → HoldsText line.now raw → command_of raw ≡ Some Quit → self.new.is_left ≡ true }
         ensures stays { (raw : List ℕ) → HoldsText line.now raw → command_of raw ≢ Some Quit → self.new.is_left ≡ self.old.is_left }
     {
@@ -457,9 +482,7 @@ fn asks_for_help(line: &HeldLine, status: &Status) -> bool
 
 impl<'w, W: Write, H: Host> Observer for Advisor<'w, W, H> {
     fn miss(&mut self, name: &str, contents: Result<&[u8], HostFault>) {
-        if self.is_shown {
-            self.unfit = unfit_line(self.alloc, &self.host, name, contents);
-        }
+        self.note_miss(name, contents);
     }
 
     fn begin(&mut self, opening: &Opening<'_>, session: &Session) {
@@ -467,9 +490,7 @@ impl<'w, W: Write, H: Host> Observer for Advisor<'w, W, H> {
     }
 
     fn wait(&mut self, image: &Image) {
-        if self.is_typed {
-            self.ask_with(image);
-        }
+        self.ask_with(image);
     }
 
     fn take(&mut self, bytes: &[u8]) {
@@ -493,9 +514,7 @@ impl<'w, W: Write, H: Host> Observer for Advisor<'w, W, H> {
     }
 
     fn end(&mut self, home: Option<&str>, session: &Session) {
-        if self.is_typed {
-            self.end_with(home, session);
-        }
+        self.end_with(home, session);
     }
 }
 

@@ -1,7 +1,14 @@
 //! The commands, as `help` shows them.
+ghost use Rattle.std.specs.Prelude.{◌≡◌};
+ghost use Rattle.host_storage.specs.Output.{Writes};
+ghost use Rattle.program_console.specs.Outside.{account_at};
+ghost use Rattle.script_hints.specs.Commands.{command_rows};
+
+use host_storage::{OutputStream, WriteFault};
+use std::io::Write;
 
 /// A row for each command, as `d64sh help shell` has them.
-pub(crate) const ROWS: &[u8] = b"\
+const ROWS: &[u8] = b"\
 \x20 format NAME,ID         make the disk empty
 \x20 write HOST [NAME[,T]]  write a host file to the disk; T is p, s or u
 \x20 crunch HOST [NAME]     write the BASIC program of a host file's text
@@ -23,3 +30,12 @@ pub(crate) const ROWS: &[u8] = b"\
 \x20 keep HOST              store the session, with its changes
 \x20 quit                   end the script
 ";
+
+/// Writes the rows.
+#[tactic(auto, unfolding(crate::specs::Commands::command_rows))]
+pub(crate) fn write_rows<W: Write>(output: &mut OutputStream<'_, W>) -> Result<(), WriteFault>
+    ensures same { output.new.writer.ghost_name ≡ output.old.writer.ghost_name }
+    ensures either { Writes (account_at W.contents output.old) (account_at W.contents output.new) command_rows }
+{
+    output.write(ROWS)
+}

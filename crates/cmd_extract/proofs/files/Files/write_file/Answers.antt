@@ -3,7 +3,7 @@ use Rattle.host_names.specs.Paths.{path_in}
 use Rattle.cmd_extract.specs.Progress.{written_progress, unwritten_progress}
 use Rattle.cmd_extract.specs.FilesNow.{progress_of_files}
 use Rattle.cmd_extract.specs.Unpacking.{after_writing, write_work}
-use Rattle.cmd_extract.proofs.Steps.{stops, further, comes_to, comes_not}
+use Rattle.cmd_extract.proofs.Steps.{stops, further, comes_to, comes_not, same_reason}
 use Rattle.cmd_extract.proofs.FileSteps.{wrote, was_written, was_not}
 use Rattle.cmd_extract.proofs.files.Files.write_file.Goals as goal
 
@@ -39,4 +39,5 @@ returns-else-make_file g c = λ rest.
     (progress_of_files c.report_unwritten.new.self) (unwritten_progress task row file reason p) c.report_unwritten.ensures
     (further _ (after_writing task row file p rest c.make_file.result) _ old now now
     (wrote task row file c.args.self.now.bytes.items c.deref-3.result.now c.deref-4.result.now p rest old now c.make_file.result path_is c.deref-4.ensures.value c.make_file.ensures)
-    (was_not task row file p rest now c.make_file.result reason c.if-make_file.false c.reason_at-reason.ensures))
+    (was_not task row file p rest now c.make_file.result reason c.if-make_file.false
+    (same_reason c.deref-else-make_file.result.now _ now.files reason (search rules) c.reason_at-reason.ensures)))

@@ -3,7 +3,7 @@ use Rattle.cmd_extract.specs.Setup.{TaskView}
 use Rattle.cmd_extract.specs.Work.{Work, Done, CallReturns, Rename, EndsWork}
 use Rattle.cmd_extract.specs.FilesNow.{progress_of_files}
 use Rattle.cmd_extract.specs.Unpacking.{finished_outcome, unfinished_outcome, unnamed_outcome, after_naming, name_work}
-use Rattle.cmd_extract.proofs.Steps.{further, ends_after, ends_with}
+use Rattle.cmd_extract.proofs.Steps.{further, ends_after, ends_with, same_reason}
 use Rattle.cmd_extract.proofs.FolderWork.{not_named, renamed, named, unnamed}
 use Rattle.cmd_extract.proofs.setup.Task.name_folder.Goals as goal
 
@@ -45,5 +45,5 @@ returns-else-rename g c =
     (subst (λ (q : List ℕ). CallReturns (Rename q c.deref-2.result.now) old c.rename.result now) partial_is c.rename.ensures) in
     ends_after c.report_unnamed.result c.report_unnamed.new.buffer (name_work task p) (Done (unnamed_outcome task p reason)) old now now
     (further _ (after_naming task p c.rename.result) _ old now now (renamed task p old now c.rename.result c.if-files.false says)
-    (unnamed task p now c.rename.result reason c.if-rename.false c.reason_at-reason.ensures))
+    (unnamed task p now c.rename.result reason c.if-rename.false (same_reason c.as_bytes.result.now _ now.files reason (c.as_bytes.ensures.value ∙ ap (λ (t : TaskView). t.done) c.self.view_is) c.reason_at-reason.ensures)))
     (ends_with c.report_unnamed.result c.report_unnamed.new.buffer (unnamed_outcome task p reason) now c.report_unnamed.ensures)

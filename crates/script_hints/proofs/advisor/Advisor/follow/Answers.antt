@@ -1,9 +1,13 @@
-use Rattle.std.proofs.Common.{◌≡◌, rules, sym, ◌∙◌}
+use Rattle.std.proofs.Common.{◌≡◌, refl, rules, sym, ◌∙◌}
 use Rattle.script_hints.proofs.Saying.{unwritten}
 use Rattle.script_hints.proofs.advisor.Advisor.follow.Goals as goal
 
 pub returns-then-is_followed-clause-past : goal.returns-then-is_followed-clause-past
-returns-then-is_followed-clause-past g c raw other says = rw c.keep.ensures.others at (c.follow_change.ensures.past raw other says)
+returns-then-is_followed-clause-past g c raw says =
+    rw (sym c.is_followed.ensures ∙ c.if-is_followed.true) (rw c.keep.ensures.others at (c.follow_change.ensures.past raw says))
+
+pub returns-else-is_followed-clause-past : goal.returns-else-is_followed-clause-past
+returns-else-is_followed-clause-past g c raw says = rw (sym c.is_followed.ensures ∙ c.if-is_followed.false) refl
 
 pub returns-then-is_followed-clause-kept : goal.returns-then-is_followed-clause-kept
 returns-then-is_followed-clause-kept g c raw says followed =

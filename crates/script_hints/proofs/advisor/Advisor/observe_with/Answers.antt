@@ -19,10 +19,9 @@ returns-clause-said g c raw says =
     let output-4 : c.pass_line.new.self.output ≡ c.follow.new.self.output = search rules in (
       refusal.0,
       remark.0,
-      rows.0,
       refusal.1,
       remark.1,
-      rw output-4 (written_after _ _ _ _ _ refusal.2 (written_after _ _ _ _ _ rows.1 (written_after _ _ _ _ _ remark.2 changes))),
+      rw output-4 (written_after _ _ _ _ _ refusal.2 (written_after _ _ _ _ _ rows (written_after _ _ _ _ _ remark.2 changes))),
     )
 
 pub returns-clause-kept : goal.returns-clause-kept
@@ -38,3 +37,11 @@ returns-clause-stays g c raw says other =
     let left-3 : c.remark_on.new.self.is_left ≡ c.args.self.now.is_left = search rules in
     let left-4 : c.pass_line.new.self.is_left ≡ c.follow.new.self.is_left = search rules in
     left-4 ∙ c.follow.ensures.stays raw says other ∙ left-3
+
+pub returns-clause-past : goal.returns-clause-past
+returns-clause-past g c raw says =
+    let typed-3 : c.remark_on.new.self.is_typed ≡ c.args.self.now.is_typed = search rules in
+    let done-3 : c.remark_on.new.self.done ≡ c.args.self.now.done = search rules in
+    let past-3 : c.remark_on.new.self.past ≡ c.args.self.now.past = search rules in
+    let past-4 : c.pass_line.new.self.past ≡ c.follow.new.self.past = search rules in
+    rw past-4 (rw (typed-3, done-3, past-3) at (c.follow.ensures.past raw says))
