@@ -1,5 +1,5 @@
 //! Resuming histories from readers.
-ghost use Rattle.std.specs.Prelude.{◌≡◌, ◌+◌, ◌<◌, ◌≤◌, [], length, take, OnOk, IfOk, IfErr, Err};
+ghost use Rattle.std.specs.Prelude.{◌≡◌, ◌+◌, ◌<◌, ◌≤◌, ◌↔◌, [], length, take, true, false, OnOk, IfOk, IfErr, Err, MatchResult};
 ghost use Rattle.std.specs.Io.KnownBytes.{Consumes, IsAtEnd, Keeps};
 ghost use Rattle.d64_image.specs.Disk.{Bytes, AreBytes};
 ghost use Rattle.d64_history.specs.FromReader.{GivesAtMost, IsReadFault, IsReadOf, IsRestFault};
@@ -7,6 +7,7 @@ ghost use Rattle.d64_history.specs.Held.{IsHeld, held_history};
 ghost use Rattle.d64_history.specs.declared.from_reader.SessionReadFault.TheVariants.{Device};
 
 use crate::held::HeldHistory;
+use crate::read_note::ReadNote;
 use crate::resume_fault::ResumeFault;
 use crate::resuming::Resuming;
 use d64_image::known_bytes;
@@ -46,9 +47,11 @@ impl From<ResumeFault> for SessionReadFault {
 /// read. Returns that length, which is 0 at the end.
 fn read_piece<R: Read>(
     reader: &mut R,
+    note: &mut ReadNote,
     buffer: &mut [u8; PIECE_BYTES],
     left: &mut u32,
 ) -> Result<usize, SessionReadFault>
+    requires { note.old.has_failed ≡ false }
     ensures within { IfOk result (λ count. count ≤ length buffer.new) }
     ensures piece { IfOk result (λ count. Consumes (R.remaining reader.old) (R.remaining reader.new) (take count buffer.new)) }
     ensures end { IfOk result (λ count. count ≡ 0 → IsAtEnd (R.remaining reader.new)) }
@@ -56,8 +59,9 @@ fn read_piece<R: Read>(
     ensures left { IfOk result (λ count. count + left.new ≡ left.old) }
     ensures fault { IfErr result (λ fault. IsRestFault (R.remaining reader.old) left.old fault) }
     ensures device { result ≡ Err Device → Keeps (R.remaining reader.old) (R.remaining reader.new) }
+    ensures noted { MatchResult result (λ _. note.new.has_failed ≡ false) (λ fault. (fault ≡ Device) ↔ (note.new.has_failed ≡ true)) }
 {
-    let outcome = reader.read(buffer);
+    let outcome = note.read(reader, buffer);
     known_bytes(buffer);
     match outcome {
         Ok(count) if count > *left as usize => Err(SessionReadFault::TooLong),
@@ -72,9 +76,11 @@ fn read_piece<R: Read>(
 /// Reads all that is left, up to a number of bytes, only for the fault that this may give.
 fn read_past<R: Read>(
     reader: &mut R,
+    note: &mut ReadNote,
     buffer: &mut [u8; PIECE_BYTES],
     limit: u32,
 ) -> Result<(), SessionReadFault>
+    requires { note.old.has_failed ≡ false }
     ensures end { OnOk result ((more : Bytes)
         × Consumes (R.remaining reader.old) (R.remaining reader.new) more
         × IsAtEnd (R.remaining reader.new)
@@ -82,10 +88,11 @@ fn read_past<R: Read>(
         × (length more ≤ limit)) }
     ensures fault { IfErr result (λ fault. IsRestFault (R.remaining reader.old) limit fault) }
     ensures device { result ≡ Err Device → GivesAtMost limit (R.remaining reader.old) (R.remaining reader.new) }
+    ensures noted { MatchResult result (λ _. note.new.has_failed ≡ false) (λ fault. (fault ≡ Device) ↔ (note.new.has_failed ≡ true)) }
 {
     let mut left = limit;
     for _ in 0..u64::MAX {
-        if read_piece(reader, buffer, &mut left)? == 0 {
+        if read_piece(reader, note, buffer, &mut left)? == 0 {
             return Ok(());
         }
     }
@@ -97,29 +104,51 @@ fn read_past<R: Read>(
 fn read_all<R: Read>(
     file: &mut Resuming,
     reader: &mut R,
+    note: &mut ReadNote,
     limit: u32,
 ) -> Result<(), SessionReadFault>
-    requires { file.old ≡ [] }
+    requires empty { file.old ≡ [] }
+    requires unfailed { note.old.has_failed ≡ false }
     ensures read { OnOk result (Consumes (R.remaining reader.old) (R.remaining reader.new) file.new
         × IsAtEnd (R.remaining reader.new)
         × AreBytes file.new
         × (length file.new ≤ limit)) }
     ensures fault { IfErr result (λ fault. IsReadFault (R.remaining reader.old) limit fault) }
     ensures device { result ≡ Err Device → GivesAtMost limit (R.remaining reader.old) (R.remaining reader.new) }
+    ensures noted { MatchResult result (λ _. note.new.has_failed ≡ false) (λ fault. (fault ≡ Device) ↔ (note.new.has_failed ≡ true)) }
 {
     let mut buffer = [0; PIECE_BYTES];
     let mut left = limit;
     for _ in 0..u64::MAX {
-        let count = read_piece(reader, &mut buffer, &mut left)?;
+        let count = read_piece(reader, note, &mut buffer, &mut left)?;
         if count == 0 {
             return Ok(());
         }
         if let Err(fault) = file.push(&buffer[..count]) {
-            read_past(reader, &mut buffer, left)?;
+            read_past(reader, note, &mut buffer, left)?;
             return Err(SessionReadFault::from(fault));
         }
     }
     unreachable!()
+}
+
+/// Resumes the history of the session file that a reader gives, of which no read has failed.
+fn resume_noting<R: Read>(
+    alloc: Global,
+    reader: &mut R,
+    note: &mut ReadNote,
+    limit: u32,
+) -> Result<HeldHistory, SessionReadFault>
+    requires { note.old.has_failed ≡ false }
+    ensures held { IfOk result IsHeld }
+    ensures session { IfOk result (λ held. IsReadOf (R.remaining reader.old) limit (held_history held)) }
+    ensures fault { IfErr result (λ fault. IsReadFault (R.remaining reader.old) limit fault) }
+    ensures device { result ≡ Err Device → GivesAtMost limit (R.remaining reader.old) (R.remaining reader.new) }
+    ensures noted { MatchResult result (λ _. note.new.has_failed ≡ false) (λ fault. (fault ≡ Device) ↔ (note.new.has_failed ≡ true)) }
+{
+    let mut file = Resuming::new(alloc);
+    read_all(&mut file, reader, note, limit)?;
+    Ok(file.finish()?)
 }
 
 /// Resumes the history of the session file that a reader gives, of at most `limit` bytes. The file
@@ -135,7 +164,5 @@ pub fn resume_from<R: Read>(
     ensures fault { IfErr result (λ fault. IsReadFault (R.remaining reader.old) limit fault) }
     ensures device { result ≡ Err Device → GivesAtMost limit (R.remaining reader.old) (R.remaining reader.new) }
 {
-    let mut file = Resuming::new(alloc);
-    read_all(&mut file, reader, limit)?;
-    Ok(file.finish()?)
+    resume_noting(alloc, reader, &mut ReadNote::new(), limit)
 }

@@ -10,6 +10,7 @@ mod held;
 mod keeping;
 pub mod laws;
 mod leading;
+mod read_note;
 mod resume_fault;
 mod resuming;
 

@@ -22,4 +22,5 @@ loop-preserved g c =
       bytes_more so_far.0 c.read_piece.new.buffer count so_far.2 read.bytes,
       omega arith,
       omega arith,
+      read.noted,
     )
