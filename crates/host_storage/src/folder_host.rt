@@ -3,7 +3,6 @@
 ghost use Rattle.std.specs.Prelude.{◌≡◌, ◌≢◌, ◌+◌, ◌<◌, ◌≤◌, ◌↔◌, ◌++◌, length, take, vec_len, None, Err, IfOk, IfErr, IfSome, OnOk, OnErr, MatchResult};
 ghost use Rattle.std.specs.Io.KnownBytes.{Consumes, IsAtEnd, Keeps};
 ghost use Rattle.std.specs.IoError.{error_kind};
-ghost use Rattle.host_storage.specs.System.{is_of_open_file};
 ghost use Rattle.host_storage.specs.Folders.{failures_after_making};
 ghost use Rattle.host_storage.specs.Host.{failures_after};
 
@@ -14,11 +13,10 @@ use crate::whole_store::store_file;
 use crate::writes::Writes;
 use crate::{look, new_entry, whole_file};
 use std::alloc::{AllocError, Global};
-use std::fs::{self, File};
+use std::fs::File;
 use std::io::{self, ErrorKind, Read};
 use std::marker::Model;
 use std::os::fd::AsFd;
-use std::os::unix::fs::FileTypeExt;
 use std::path::Path;
 use std::rt::Files;
 
@@ -84,7 +82,7 @@ where
     }
 
     fn fill(&mut self, name: &str, limit: usize, bytes: &mut Vec<u8>) -> Result<(), HostFault> {
-        if is_named_pipe(&self.rt, name) {
+        if look::is_named_pipe(&self.rt, name) {
             self.count_failed_read();
             return Err(HostFault::Device);
         }
@@ -215,25 +213,6 @@ fn read_file<R: Files>(
         Some(buffer) => read_to_end(&mut file, &mut **buffer, limit, bytes),
         None => unreachable!(),
     }
-}
-
-/// Whether a named pipe is at this path: opening one may wait for ever for its writer. A pipe that
-/// the process has open already, such as `<(..)` of a shell, does not count.
-fn is_named_pipe<R: Files>(rt: &R, path: &str) -> bool {
-    if is_of_open_file(path) {
-        return false;
-    }
-    match fs::metadata(rt, path) {
-        Ok(found) => found.file_type().is_fifo(),
-        Err(_) => false,
-    }
-}
-
-/// Whether a path is one under which a system shows a process the files that it has open.
-fn is_of_open_file(path: &str) -> bool
-    ensures { result ≡ is_of_open_file path.now }
-{
-    path == "/dev/stdin" || path.starts_with("/dev/fd/") || path.starts_with("/proc/self/fd/")
 }
 
 /// Opens the file at this path for reading.

@@ -53,6 +53,8 @@ pub enum Obstacle {
     Folder,
     /// The system does not let this process read what is there.
     NoPermission,
+    /// A named pipe is at the path: to open it may wait for ever for its writer.
+    NamedPipe,
 }
 
 /// What prevents writing a file or a folder, as far as a host knows.

@@ -1,12 +1,14 @@
 //! What prevents the reading or writing of a file of the system, by its path.
 
 ghost use Rattle.std.specs.Prelude.{◌≡◌, ◌≢◌, ◌⊎◌, ◌↔◌, Some};
+ghost use Rattle.host_storage.specs.System.{is_of_open_file};
 
 use crate::host::{Obstacle, WriteObstacle};
 use crate::open_options::to_append;
 use crate::outcomes::by_kind;
 use std::fs::{self, File};
 use std::io::ErrorKind;
+use std::os::unix::fs::FileTypeExt;
 use std::rt::Files;
 
 /// What prevents the reading of the file at this path, as far as the system says. Only a plain file
@@ -20,7 +22,7 @@ pub fn obstacle<R: Files>(rt: &R, path: &str) -> Option<Obstacle> {
         return Some(Obstacle::Folder);
     }
     if !found.is_file() {
-        return None;
+        return pipe_at(rt, path);
     }
     match by_kind(File::open(rt, path)) {
         Ok(_) => None,
@@ -28,11 +30,40 @@ pub fn obstacle<R: Files>(rt: &R, path: &str) -> Option<Obstacle> {
     }
 }
 
+/// That a named pipe is at this path, if one is.
+fn pipe_at<R: Files>(rt: &R, path: &str) -> Option<Obstacle> {
+    if is_named_pipe(rt, path) {
+        Some(Obstacle::NamedPipe)
+    } else {
+        None
+    }
+}
+
+/// Whether a named pipe is at this path: opening one may wait for ever for its writer. A pipe that
+/// the process has open already, such as `<(..)` of a shell, does not count.
+pub(crate) fn is_named_pipe<R: Files>(rt: &R, path: &str) -> bool {
+    if is_of_open_file(path) {
+        return false;
+    }
+    match fs::metadata(rt, path) {
+        Ok(found) => found.file_type().is_fifo(),
+        Err(_) => false,
+    }
+}
+
+/// Whether a path is one under which a system shows a process the files that it has open.
+fn is_of_open_file(path: &str) -> bool
+    ensures { result ≡ is_of_open_file path.now }
+{
+    path == "/dev/stdin" || path.starts_with("/dev/fd/") || path.starts_with("/proc/self/fd/")
+}
+
 /// What an error of the system says about a path.
 fn obstacle_of(kind: ErrorKind) -> Option<Obstacle>
     ensures nothing { (result ≡ Some Obstacle.Nothing) ↔ ((kind ≡ ErrorKind.NotFound) ⊎ (kind ≡ ErrorKind.NotADirectory)) }
     ensures permission { (result ≡ Some Obstacle.NoPermission) ↔ (kind ≡ ErrorKind.PermissionDenied) }
     ensures never_folder { result ≢ Some Obstacle.Folder }
+    ensures never_pipe { result ≢ Some Obstacle.NamedPipe }
 {
     match kind {
         ErrorKind::NotFound | ErrorKind::NotADirectory => Some(Obstacle::Nothing),

@@ -9,13 +9,14 @@ use Rattle.host_storage.specs.declared.host.Obstacle.TheVariants as obstacles
 use Rattle.host_storage.specs.declared.host.WriteObstacle.{WriteObstacle}
 use Rattle.host_storage.specs.declared.host.WriteObstacle.TheVariants as write_obstacles
 use Rattle.program_console.specs.declared.reason.Reason.{Reason}
-use Rattle.program_console.specs.declared.reason.Reason.TheVariants.{NoSuchFile, Folder, NoPermission, TooLong, NotUtf8, ListedNameTooLong, NoFolder, NotFolder, FolderThere, NameTooLong, ReadOnly, Full}
+use Rattle.program_console.specs.declared.reason.Reason.TheVariants.{NoSuchFile, Folder, NoPermission, NamedPipe, TooLong, NotUtf8, ListedNameTooLong, NoFolder, NotFolder, FolderThere, NameTooLong, ReadOnly, Full}
 
 -- a reason in plain words
 abbrev pub reason_text : Reason → List ℕ
 reason_text NoSuchFile = codes "no such file"
 reason_text Folder = codes "a folder"
 reason_text NoPermission = codes "no permission"
+reason_text NamedPipe = codes "a named pipe"
 reason_text TooLong = codes "longer than 16 MiB"
 reason_text NotUtf8 = codes "its name is not UTF-8"
 reason_text ListedNameTooLong = codes "its name has more than 4096 bytes"
@@ -29,6 +30,7 @@ reason_text Full = codes "the disk is full"
 -- what can be done, if the reason does not make it plain
 abbrev pub hint_of : Reason → List ℕ
 hint_of Folder = codes "; check, files, extract and catalogue take the images in it: find FOLDER -name '*.d64' | d64sh check --files-from -"
+hint_of NamedPipe = codes "; store what comes by it in a file"
 hint_of reason = []
 
 -- the reason for an obstacle at a path
@@ -36,6 +38,7 @@ abbrev pub reason_of_obstacle : Obstacle → Reason
 reason_of_obstacle obstacles.Nothing = NoSuchFile
 reason_of_obstacle obstacles.Folder = Folder
 reason_of_obstacle obstacles.NoPermission = NoPermission
+reason_of_obstacle obstacles.NamedPipe = NamedPipe
 
 -- why a file with this name was refused with this fault, as far as a host with these files can say:
 -- by the fault itself, or by what is at the path if the fault is the device's

@@ -14,6 +14,8 @@ pub enum Reason {
     Folder,
     /// The system does not let this process read what is there, or write there.
     NoPermission,
+    /// There is a named pipe at its path.
+    NamedPipe,
     /// It has more bytes than any file that is read here.
     TooLong,
     /// Its name is not UTF-8, and no other can be opened.
@@ -43,6 +45,7 @@ impl Reason {
             Reason::NoSuchFile => b"no such file",
             Reason::Folder => b"a folder",
             Reason::NoPermission => b"no permission",
+            Reason::NamedPipe => b"a named pipe",
             Reason::TooLong => b"longer than 16 MiB",
             Reason::NotUtf8 => b"its name is not UTF-8",
             Reason::ListedNameTooLong => b"its name has more than 4096 bytes",
@@ -63,6 +66,7 @@ impl Reason {
             Reason::Folder => {
                 b"; check, files, extract and catalogue take the images in it: find FOLDER -name '*.d64' | d64sh check --files-from -"
             }
+            Reason::NamedPipe => b"; store what comes by it in a file",
             _ => b"",
         }
     }
@@ -90,6 +94,7 @@ impl From<Obstacle> for Reason {
             Obstacle::Nothing => Reason::NoSuchFile,
             Obstacle::Folder => Reason::Folder,
             Obstacle::NoPermission => Reason::NoPermission,
+            Obstacle::NamedPipe => Reason::NamedPipe,
         }
     }
 }
