@@ -104,9 +104,15 @@ left_line left = codes "  blocks that it lacks are on these tracks of a G64:" ++
 abbrev pub left_text : List ℕ → List ℕ
 left_text left = if length left == 0 then [] else left_line left
 
+-- that no file was written; if that is for blocks in conflict, which options decide on them
+abbrev pub unwritten_text : ℕ → List ℕ
+unwritten_text conflicts =
+    if conflicts == 0 then codes "  not written\n"
+    else codes "  not written: of good copies that differ, --majority takes what more than half have, --first the first one\n"
+
 -- the line of the digest of the file that was made, or that none was written
-abbrev pub digest_text : Option Bytes → List ℕ
-digest_text digest = option_map_or (λ bytes. codes "  SHA-256 " ++ (encode_lower bytes ++ codes "\n")) digest (codes "  not written\n")
+abbrev pub digest_text : Option Bytes → ℕ → List ℕ
+digest_text digest conflicts = option_map_or (λ bytes. codes "  SHA-256 " ++ (encode_lower bytes ++ codes "\n")) digest (unwritten_text conflicts)
 
 -- the line of the file that is made
 unfoldable pub first_line : Bytes → ℕ → Bool → List Choice → List ℕ
@@ -115,4 +121,4 @@ first_line out tracks with_codes list = shown_name out ++ (codes ": " ++ (merged
 -- all that is printed of a merge for people
 unfoldable pub text_report : Bytes → ℕ → Bool → List Bytes → List DumpView → List Choice → List ℕ → Option Bytes → List ℕ
 text_report out tracks with_codes names dumps list left digest =
-    first_line out tracks with_codes list ++ (lines_of_choices names dumps list ++ (left_text left ++ digest_text digest))
+    first_line out tracks with_codes list ++ (lines_of_choices names dumps list ++ (left_text left ++ digest_text digest (outcome_count Conflict list)))

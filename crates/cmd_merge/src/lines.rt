@@ -2,7 +2,7 @@
 ghost use Rattle.std.specs.Prelude.{◌≡◌, ◌++◌, map, option_map, string_bytes, OnOk};
 ghost use Rattle.std.specs.List.{flat_map};
 ghost use Rattle.hex.specs.Hex.{encode_lower};
-ghost use Rattle.cmd_merge.specs.Lines.{codes_text, outcome_text, source_text, error_text, copy_text, error_of, error_at, error_texts, choice_text, line_of_choice, lines_of_choices, count_if_any, settled_text, differing_text, counts_text, merged_size_text, listed_entry, left_line, left_text, digest_text, first_line, text_report};
+ghost use Rattle.cmd_merge.specs.Lines.{codes_text, outcome_text, source_text, error_text, copy_text, error_of, error_at, error_texts, choice_text, line_of_choice, lines_of_choices, count_if_any, settled_text, differing_text, counts_text, merged_size_text, listed_entry, left_line, left_text, unwritten_text, digest_text, first_line, text_report};
 
 use crate::objects::{Summary, entry_text, name_at};
 use d64_image::BlockNo;
@@ -284,9 +284,25 @@ fn push_digits(out: &mut Vec<u8>, digest: &[u8; 32]) -> Result<(), AllocError>
     out.extend_from_slice(&digits)
 }
 
+/// Returns the line of a file that was not written, with the options that decide on blocks in
+/// conflict, if there are any.
+fn unwritten_text(conflicts: usize) -> &'static [u8]
+    ensures { result.now ≡ unwritten_text conflicts }
+{
+    if conflicts == 0 {
+        b"  not written\n"
+    } else {
+        b"  not written: of good copies that differ, --majority takes what more than half have, --first the first one\n"
+    }
+}
+
 /// Appends the line of the digest of the file that was made, or that none was written.
-fn push_digest(out: &mut Vec<u8>, digest: Option<&[u8; 32]>) -> Result<(), AllocError>
-    ensures { OnOk result (out.new.items ≡ out.old.items ++ digest_text (option_map (λ d. d.now) digest.entry)) }
+fn push_digest(
+    out: &mut Vec<u8>,
+    digest: Option<&[u8; 32]>,
+    conflicts: usize,
+) -> Result<(), AllocError>
+    ensures { OnOk result (out.new.items ≡ out.old.items ++ digest_text (option_map (λ d. d.now) digest.entry) conflicts) }
 {
     match digest {
         Some(digest) => {
@@ -294,7 +310,7 @@ fn push_digest(out: &mut Vec<u8>, digest: Option<&[u8; 32]>) -> Result<(), Alloc
             push_digits(out, digest)?;
             out.extend_from_slice(b"\n")
         }
-        None => out.extend_from_slice(b"  not written\n"),
+        None => out.extend_from_slice(unwritten_text(conflicts)),
     }
 }
 
@@ -311,5 +327,9 @@ pub(crate) fn push_report(
     push_first(out, summary)?;
     push_choices(out, names, dumps, summary.list)?;
     push_left(out, summary.left)?;
-    push_digest(out, summary.digest)
+    push_digest(
+        out,
+        summary.digest,
+        count_of(BlockOutcome::Conflict, summary.list),
+    )
 }
