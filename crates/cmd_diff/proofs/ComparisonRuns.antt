@@ -1,5 +1,5 @@
 -- What a comparison leaves, by what its steps leave.
-use Rattle.std.proofs.Common.{◌≡◌, ◌∙◌, ℕ, List, Result, Err, inr, refl, sym, ap, subst}
+use Rattle.std.proofs.Common.{◌≡◌, ℕ, List, Result, Err, inr, refl, sym, subst}
 use Rattle.host_storage.specs.Files.{HostState}
 use Rattle.program_surveys.specs.FileOutcomes.{FileOutcome}
 use Rattle.program_surveys.specs.Runs.{IsCut, IsReported, Reported, run_state}
@@ -7,13 +7,6 @@ use Rattle.cmd_diff.specs.Comparisons.{AreCompared, Compares, PairRule}
 use Rattle.program_console.specs.declared.stream_fault.StreamFault.{StreamFault}
 use Rattle.program_console.specs.declared.stream_fault.StreamFault.TheVariants.{Memory, Write}
 use Rattle.program_surveys.specs.FileContents.{Contents, IsReadAs}
-
--- a rule says the same of the same names and bytes
-pub same_outcome : (rule : PairRule) (said : FileOutcome) (old_name old_name' : List ℕ) (old old' : Contents) (new_name new_name' : List ℕ) (new new' : Contents)
-    → said ≡ rule old_name old new_name new → old_name ≡ old_name' → old ≡ old' → new_name ≡ new_name' → new ≡ new' → said ≡ rule old_name' old' new_name' new'
-same_outcome rule said old_name old_name' old old' new_name new_name' new new' is e1 e2 e3 e4 =
-    is ∙ ap (λ (n : List ℕ). rule n old new_name new) e1 ∙ ap (λ (o : Contents). rule old_name' o new_name new) e2
-    ∙ ap (λ (n : List ℕ). rule old_name' old' n new) e3 ∙ ap (λ (o : Contents). rule old_name' old' new_name' o) e4
 
 -- both files were read, and memory ran out
 pub wants_memory : (rule : PairRule) (old_name new_name : List ℕ) (first middle last : HostState) (reported : Reported) (old new : Contents) (result : Result (Unit {0}) StreamFault)

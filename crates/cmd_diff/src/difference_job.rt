@@ -1,5 +1,5 @@
 //! The run of `diff`: the comparison of two files.
-ghost use Rattle.std.specs.Prelude.{◌≡◌};
+ghost use Rattle.std.specs.Prelude.{◌≡◌, IfOk};
 ghost use Rattle.cmd_diff.specs.Differences.{difference_rule};
 ghost use Rattle.cmd_diff.specs.Comparisons.{Compares};
 ghost use Rattle.program_surveys.specs.FileContents.{contents_by};
@@ -8,8 +8,8 @@ use crate::difference_report::DifferenceReport;
 use host_storage::Host;
 use program_arguments::DiffForm;
 use program_console::{Outputs, Reason, StreamFault};
-use program_surveys::{Batch, WholeTask, read_contents};
-use std::alloc::Global;
+use program_surveys::{Batch, ReportBuffer, Verdict, WholeTask, read_contents};
+use std::alloc::{AllocError, Global};
 use std::io::Write;
 
 /// A comparison of an old file with a new one, by their names.
@@ -35,6 +35,26 @@ impl<'n> DifferenceJob<'n> {
             new,
         }
     }
+
+    /// Replaces the buffer's contents by the result for what was read of the two files.
+    fn compare(
+        &self,
+        old: &Result<Vec<u8>, Option<Reason>>,
+        new: &Result<Vec<u8>, Option<Reason>>,
+        buffer: &mut ReportBuffer,
+    ) -> Result<Verdict, AllocError>
+        ensures { IfOk result (λ verdict. record { printed = buffer.new.printed.items; complaint = buffer.new.complaint.items; verdict = verdict }
+            ≡ difference_rule self.now.form self.now.old.now (contents_by (λ bytes. bytes.items) old.now) self.now.new.now (contents_by (λ bytes. bytes.items) new.now)) }
+    {
+        let mut report = DifferenceReport::new(self.alloc, self.form)?;
+        report.compare(
+            self.old.as_bytes(),
+            lent(old),
+            self.new.as_bytes(),
+            lent(new),
+            buffer,
+        )
+    }
 }
 
 /// A comparison reads both files, and prints what changed. It is clean if they are the same, amiss
@@ -50,14 +70,7 @@ impl<'n> WholeTask for DifferenceJob<'n> {
     ) -> Result<(), StreamFault> {
         let old = read_contents(self.alloc, self.old, host)?;
         let new = read_contents(self.alloc, self.new, host)?;
-        let mut report = DifferenceReport::new(self.alloc, self.form)?;
-        let verdict = report.compare(
-            self.old.as_bytes(),
-            lent(&old),
-            self.new.as_bytes(),
-            lent(&new),
-            &mut batch.buffer,
-        )?;
+        let verdict = self.compare(&old, &new, &mut batch.buffer)?;
         batch.report_result(verdict, outputs)?;
         Ok(())
     }
