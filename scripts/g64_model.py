@@ -30,7 +30,7 @@ class Circle:
     def __init__(self, track):
         self.bits = [byte >> (7 - k) & 1 for byte in track for k in range(8)]
         n = len(self.bits)
-        self.starts = []
+        self.starts, self.values = [], {}
         if 0 not in self.bits:
             return
         run, first = 0, self.bits.index(0)
@@ -46,10 +46,13 @@ class Circle:
         self.starts.sort()
 
     def value(self, place, k):
-        n = len(self.bits)
-        ten = [self.bits[(place + 10 * k + i) % n] for i in range(10)]
-        high, low = NIBBLES.get(tuple(ten[:5])), NIBBLES.get(tuple(ten[5:]))
-        return None if high is None or low is None else 16 * high + low
+        """Byte k of what begins at a place, or None if it has no value. Those that were looked for are kept: each block asks for all headers."""
+        if (place, k) not in self.values:
+            n = len(self.bits)
+            ten = [self.bits[(place + 10 * k + i) % n] for i in range(10)]
+            high, low = NIBBLES.get(tuple(ten[:5])), NIBBLES.get(tuple(ten[5:]))
+            self.values[place, k] = None if high is None or low is None else 16 * high + low
+        return self.values[place, k]
 
     def after(self, start):
         return self.starts[(self.starts.index(start) + 1) % len(self.starts)]
@@ -154,8 +157,8 @@ def track_bits(blocks, track, its_id, sync=40, gap=72, tail=64):
 def packed(bits):
     """Bits as bytes, filled up with 01."""
     bits = bits + [0, 1] * 8
-    bits = bits[:len(bits) // 8 * 8]
-    return bytes(int("".join(map(str, bits[k:k + 8])), 2) for k in range(0, len(bits), 8))
+    count = len(bits) // 8
+    return int("".join(map(str, bits[:8 * count])), 2).to_bytes(count, "big")
 
 
 def written(tracks, entries=84, version=0):
