@@ -4,8 +4,8 @@ import pty
 import subprocess
 import termios
 
-# How long an output may take.
-SECONDS = 10
+# How long an output may take, also beside other sweeps on a busy machine.
+SECONDS = 60
 
 
 def until_closed(terminal):
