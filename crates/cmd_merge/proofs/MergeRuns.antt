@@ -1,13 +1,11 @@
 -- What a merge leaves, by what its steps leave.
-use Rattle.std.proofs.Common.{◌≡◌, ◌<◌, ◌≤◌, ◌+◌, ℕ, List, ◌∷◌, Option, Some, None, Result, Err, inl, inr, length, map, drop, drop-cons, refl, sym, ap, ◌∙◌, subst, suc, arith}
+use Rattle.std.proofs.Common.{◌≡◌, ◌<◌, ◌≤◌, ◌+◌, ℕ, List, ◌∷◌, Result, Err, length, map, drop, drop-cons, refl, sym, ap, ◌∙◌, subst, suc, arith}
 use Rattle.std.specs.Prelude.{slice_index_or, IfErr, String, string_bytes}
 use Rattle.std.proofs.lemmas.List.{drop_all}
 use Rattle.host_storage.specs.Files.{HostState}
 use Rattle.program_arguments.specs.declared.jobs.DiffForm.{DiffForm}
-use Rattle.cmd_merge.specs.Setup.{MergeSetupView}
 use Rattle.cmd_merge.specs.Reports.{ReadingsView, with_read_file}
-use Rattle.cmd_merge.specs.Finishing.{MayHaveMade}
-use Rattle.cmd_merge.specs.Merges.{ReadsFiles, CameSoFar}
+use Rattle.cmd_merge.specs.Merges.{ReadsFiles}
 use Rattle.program_console.specs.declared.stream_fault.StreamFault.TheVariants.{Memory}
 use Rattle.program_console.specs.declared.stream_fault.StreamFault.{StreamFault}
 use Rattle.program_surveys.specs.FileContents.{Contents, IsReadAs}
@@ -34,10 +32,6 @@ unfolding ReadsFiles
 no_files_left form names place host readings past =
     subst (λ (xs : List _). ReadsFiles form (map string_bytes xs) host readings host readings) (sym (drop_all place names past)) (refl, refl)
 
--- the files were read, and then memory ran out
-pub so_far : (setup : MergeSetupView) (bytes : Option (List ℕ)) (old middle new : HostState) → middle.files ≡ old.files → MayHaveMade setup bytes middle new → CameSoFar setup old new
-so_far setup None old middle new files is = (middle, files, inl is)
-so_far setup (Some bytes) old middle new files is = elim is [ inl same ↦ (middle, files, inl same) | inr made ↦ (middle, files, inr (bytes, made.0, made.1)) ]
-
+-- memory ran out
 pub wants_memory : {A : Type 0} (P : Type 0) (result : Result A StreamFault) → result ≡ Err Memory → P → IfErr result (λ fault. (fault ≡ Memory) × P)
 wants_memory P result is holds = subst (λ (r : Result _ StreamFault). IfErr r (λ fault. (fault ≡ Memory) × P)) (sym is) (refl, holds)

@@ -1,14 +1,14 @@
 -- How a merge of files ends.
-use Rattle.std.specs.Prelude.{◌≡◌, ◌⊎◌, ℕ, Bool, List, [], ◌∷◌, MatchBool, Result, Ok, Err}
+use Rattle.std.specs.Prelude.{◌≡◌, ◌⊎◌, ℕ, Bool, List, [], ◌∷◌, MatchBool, option_map, Result, Ok, Err}
+use Rattle.d64_survey.specs.Dump.{dump_bytes}
 use Rattle.host_storage.specs.Files.{HostState}
 use Rattle.host_storage.specs.Folders.{Looks}
-use Rattle.host_storage.specs.declared.host.FolderFault.{FolderFault}
 use Rattle.program_surveys.specs.FileOutcomes.{FileOutcome}
 use Rattle.program_surveys.specs.Runs.{IsCut, IsReported, RunState}
 use Rattle.program_arguments.specs.declared.jobs.DiffForm.{DiffForm}
 use Rattle.cmd_merge.specs.Setup.{MergeSetupView}
-use Rattle.cmd_merge.specs.Reports.{ReadingsView, no_readings, with_read_file, file_present_outcome}
-use Rattle.cmd_merge.specs.Finishing.{Finishes, IsFileMade}
+use Rattle.cmd_merge.specs.Reports.{ReadingsView, no_readings, with_read_file, made, file_present_outcome}
+use Rattle.cmd_merge.specs.Finishing.{Finishes, MayHaveMade}
 use Rattle.program_surveys.specs.JobEnds.{EndedRun}
 use Rattle.program_console.specs.declared.stream_fault.StreamFault.{StreamFault}
 use Rattle.program_console.specs.declared.stream_fault.StreamFault.TheVariants.{Read, Write, Memory}
@@ -34,12 +34,13 @@ abbrev pub ConcludesMerge : MergeSetupView → HostState → FileOutcome → Hos
 ConcludesMerge setup old outcome new =
     (there : Bool) × Looks old.files setup.out there × MatchBool there ((new ≡ old) × (outcome ≡ file_present_outcome setup)) (MergesRead setup old outcome new)
 
--- how far a merge came if memory ran out: no file was changed, except that the one to be made may
--- have been made, whole
+-- how far a merge came if memory ran out: no file was changed; or all files were read, and the file
+-- of their merged dump may have been made, whole
 abbrev pub CameSoFar : MergeSetupView → HostState → HostState → Type 0
 CameSoFar setup old new =
-    (middle : HostState) × (middle.files ≡ old.files)
-    × ((new ≡ middle) ⊎ ((bytes : List ℕ) × (result : Result (Unit {0}) FolderFault) × IsFileMade setup.out bytes middle result new))
+    (new.files ≡ old.files)
+    ⊎ ((middle : HostState) × (readings : ReadingsView) × (middle.files ≡ old.files)
+    × ReadsFiles setup.form setup.names old no_readings middle readings × MayHaveMade setup (option_map dump_bytes (made setup readings)) middle new)
 
 -- how a merge ends: its result was written, or the output failed while it was written, or memory
 -- ran out and nothing was written
