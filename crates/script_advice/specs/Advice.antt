@@ -200,6 +200,7 @@ wrong_host_file parts command fault reason =
 -- a line that names a file of a type that its command does not take
 abbrev pub wrong_type : LineParts → Option LineCommand → List Piece
 wrong_type parts (Some Write) = one_piece (codes "the type in \"") Second (codes "\" cannot be written; p, s and u can be")
+wrong_type parts (Some Undelete) = one_piece (codes "the type in \"") First (codes "\" cannot be brought back; p, s and u can be")
 wrong_type parts command = one_piece (codes "the file \"") (name_of_piece (file_piece parts command)) (codes "\" has the wrong type for this command")
 
 -- the advice about a line of a command that was refused with a status, for this reason, if one is
@@ -216,14 +217,14 @@ advice_by parts command FileExists reason = one_piece (codes "the disk already h
 advice_by parts command FileTypeMismatch reason = wrong_type parts command
 advice_by parts command (IllegalBlock track sector) reason = wrong_block parts command
 advice_by parts command (DirectoryError fault) reason = one_piece (codes "the disk is damaged: ") (Text (directory_fault fault)) (codes "; d64sh check shows where")
-advice_by parts command DiskFull reason = plain_pieces (codes "there is not enough space on the disk or in its directory")
+advice_by parts command DiskFull reason = plain_pieces (codes "there is not enough space on the disk or in its directory; a blank disk needs format first")
 advice_by parts command (HostFile fault) reason = wrong_host_file parts command fault reason
 advice_by parts command NothingToUndo reason = plain_pieces (codes "there is nothing to undo")
 advice_by parts command NothingToRedo reason = plain_pieces (codes "there is nothing to redo")
 advice_by parts command NotOneBlock reason = one_piece (codes "the file \"") First (codes "\" is not 256 bytes long")
 advice_by parts command (BasicText fault) reason = two_pieces (codes "the text \"") First (codes "\" is not a program: ") (Text (basic_fault fault)) []
 advice_by parts command (NotBasic fault) reason = two_pieces (codes "the file \"") First (codes "\" is not a BASIC program: ") (Text (list_fault_text fault)) []
-advice_by parts command FileLost reason = one_piece (codes "what was deleted as \"") First (codes "\" is lost, and cannot be brought back")
+advice_by parts command FileLost reason = one_piece (codes "what was deleted as \"") FirstName (codes "\" is lost, and cannot be brought back")
 advice_by parts command OutOfMemory reason = plain_pieces (codes "out of memory")
 advice_by parts command Done reason = plain_pieces []
 advice_by parts command (FilesScratched count) reason = plain_pieces []

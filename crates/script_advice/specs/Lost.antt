@@ -13,6 +13,7 @@ use Rattle.script_lines.specs.Act.{IsSpelled}
 use Rattle.script_lines.specs.Arguments.{name_and_kind_in}
 use Rattle.script_lines.specs.declared.status.Status.{Status}
 use Rattle.script_lines.specs.declared.status.Status.TheVariants.{FileLost}
+use Rattle.script_advice.specs.Advice.{name_part}
 use Rattle.script_advice.specs.Found.{is_deleted_as, listed_slots}
 
 -- the text for a reason; empty for a reason for which no file is lost
@@ -65,5 +66,5 @@ IsFileNamed argument name = (text : Bytes) × (kind : Kind) × (name_and_kind_in
 -- a line that says so, if the status is that of such a file
 abbrev pub IsLostLine : Disk → Bytes → Bytes → Status → Bytes → Type 0
 IsLostLine image start argument FileLost line =
-    (name : Bytes) × (loss : Loss) × IsFileNamed argument name × (loss_of image name ≡ Some loss) × (line ≡ lost_about start argument loss)
+    (name : Bytes) × (loss : Loss) × IsFileNamed argument name × (loss_of image name ≡ Some loss) × (line ≡ lost_about start (name_part argument) loss)
 IsLostLine image start argument status line = ⊥

@@ -56,7 +56,7 @@ impl Piece {
 }
 
 /// What comes before the first comma of an argument, or all of it.
-fn name_part(argument: &str) -> &[u8]
+pub(crate) fn name_part(argument: &str) -> &[u8]
     ensures { result.now ≡ name_part argument.now }
 {
     match at_comma(argument.as_bytes()) {
@@ -144,7 +144,7 @@ impl Advice {
                 b"; d64sh check shows where",
             ),
             Status::DiskFull => Advice::plain(
-                b"there is not enough space on the disk or in its directory",
+                b"there is not enough space on the disk or in its directory; a blank disk needs format first",
             ),
             Status::HostFile(fault) => wrong_host_file(parts, command, fault, reason),
             Status::NothingToUndo => Advice::plain(b"there is nothing to undo"),
@@ -170,7 +170,7 @@ impl Advice {
             ),
             Status::FileLost => Advice::one(
                 b"what was deleted as \"",
-                Piece::First,
+                Piece::FirstName,
                 b"\" is lost, and cannot be brought back",
             ),
             Status::OutOfMemory => Advice::plain(b"out of memory"),
@@ -371,6 +371,11 @@ fn wrong_type(parts: &LineParts<'_>, command: Option<LineCommand>) -> Advice
             b"the type in \"",
             Piece::Second,
             b"\" cannot be written; p, s and u can be",
+        ),
+        Some(LineCommand::Undelete) => Advice::one(
+            b"the type in \"",
+            Piece::First,
+            b"\" cannot be brought back; p, s and u can be",
         ),
         _ => Advice::one(
             b"the file \"",

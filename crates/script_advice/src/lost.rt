@@ -6,6 +6,7 @@ ghost use Rattle.d64_files.specs.Slot.{EntryView};
 ghost use Rattle.script_advice.specs.Found.{listed_slots};
 ghost use Rattle.script_advice.specs.Lost.{IsFileNamed, IsLostLine, first_loss, is_grave, is_marked_used, loss_of, loss_of_entry, loss_reason_text, lost_about, reported_loss};
 
+use crate::advice::name_part;
 use crate::found::is_deleted_as;
 use d64_files::{Entry, Name};
 use d64_image::Image;
@@ -31,7 +32,7 @@ pub(crate) fn lost_line(
     };
     let file = file_named(alloc, name)?;
     let loss = loss_of(image, &file)?;
-    lost_about(alloc, start, name.as_bytes(), loss).ok()
+    lost_about(alloc, start, name_part(name), loss).ok()
 }
 
 /// The line about a name with the reason.
