@@ -57,6 +57,7 @@ one_file_more image name kind is sound none =
         vacant = can.unused;
         back = subst (λ (next : List (List ℕ)). HasFile next slot.0 (file_back image slot.0 kind)) (sym disk) keeps.0;
         others = λ other file has. subst (λ (next : List (List ℕ)). HasFile next other file) (sym disk) (keeps.1 other file has);
+        only = λ other file differs has. keeps.2 other file differs (subst (λ (next : List (List ℕ)). HasFile next other file) disk has);
       },
     )
 

@@ -20,11 +20,12 @@ use Rattle.d64_scratched.specs.Scratched.{losses, is_lost}
 use Rattle.d64_dos.specs.Undelete.{is_scratched_as, chain_of, is_file_left, is_claimed, slot_to_undelete}
 
 -- the second image has one file more than the first: the one that was left in a slot that wasn't
--- used; each other file keeps its slot, its chain and its content
+-- used; each other file keeps its slot, its chain and its content, and there is no other
 pub record HasOneFileMore (old new : Disk) (kind : Kind) (slot : ℕ) : Type 0 where
   pub vacant : is_used (cell_at old slot) ≡ false
   pub back : HasFile new slot (file_back old slot kind)
   pub others : (other : ℕ) (file : FileView) → HasFile old other file → HasFile new other file
+  pub only : (other : ℕ) (file : FileView) → other ≢ slot → HasFile new other file → HasFile old other file
 
 -- an accepted command on a sound disk brings back one file, in the slot that is chosen
 abbrev pub UndeletingAddsOneFile : Type 0

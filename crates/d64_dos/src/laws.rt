@@ -16,8 +16,8 @@ pub fn formatted_disk_lists()
     ensures { FormattedDiskLists }
 {}
 
-/// On a sound disk an accepted undeletion adds one file, in a slot that wasn't used; every other
-/// file keeps its slot, its blocks and its content.
+/// On a sound disk an accepted undeletion adds one file, in a slot that wasn't used, and no other;
+/// every file that was there keeps its slot, its blocks and its content.
 pub fn undeleting_adds_one_file()
     ensures { UndeletingAddsOneFile }
 {}

@@ -1,15 +1,15 @@
 -- the effect of the commands on the directory's list of names and contents
-use Rattle.std.proofs.Common.{◌≡◌, ℕ, suc, Bool, true, false, not, cond, List, [], ◌∷◌, length, map, Option, Some, None, refl, sym, ap, ◌∙◌, subst}
-use Rattle.std.specs.Prelude.{position, filter, option_map, bytes_eq}
+use Rattle.std.proofs.Common.{◌≡◌, ℕ, zero, suc, Bool, true, false, not, cond, List, [], ◌∷◌, length, map, set, Option, Some, None, refl, sym, ap, ◌∙◌, subst}
+use Rattle.std.specs.Prelude.{position, filter, take, slice_get, option_map, bytes_eq}
 use Rattle.std.specs.List.{filter_map, cons_option}
 use Rattle.std.proofs.lemmas.List.Elements.{filter_agree}
 use Rattle.d64_files.specs.Name.{IsName, name_in}
 use Rattle.d64_files.proofs.FilledNames.{name_in-filled_field}
 use Rattle.d64_effects.specs.Contents.{ListedFile, listed_file, names_and_contents}
 use Rattle.d64_effects.specs.ContentsAfter.{list_with, is_scratched_row, row_named, renamed_rows}
-use Rattle.d64_effects.specs.ContentsLaws.{FormattedListsNothing, WrittenListsTheFile, ScratchedListsTheOthers, RenamedListsTheName, NamedListsTheSame, ValidatedListsTheClosed}
+use Rattle.d64_effects.specs.ContentsLaws.{FormattedListsNothing, WrittenListsTheFile, ScratchedListsTheOthers, RenamedListsTheName, NamedListsTheSame, ValidatedListsTheClosed, UndeletedListsTheFile}
 use Rattle.d64_effects.specs.View.{FileView}
-use Rattle.d64_effects.specs.ViewAfter.{formatted_view, written_view, new_file, is_vacant, slots_with, first_vacant, emptied_if, scratched_view, with_field, renamed_slots, renamed_view, named_view, validated_view}
+use Rattle.d64_effects.specs.ViewAfter.{formatted_view, written_view, new_file, is_vacant, slots_with, first_vacant, emptied_if, scratched_view, with_field, renamed_slots, renamed_view, named_view, validated_view, file_back, undeleted_view}
 use Rattle.d64_effects.specs.Write.{taken_by}
 use Rattle.d64_effects.proofs.Rows.{position-cons}
 
@@ -96,3 +96,17 @@ rows-renamed (Some file ∷ slots) old new named =
 pub renamed-lists_the_name : RenamedListsTheName
 unfolding renamed_view
 renamed-lists_the_name shown old new named = rows-renamed shown.slots old new named
+
+-- a file in a vacant slot
+rows-back : (slots : List (Option FileView)) (file : FileView) (slot : ℕ) → slice_get slots slot ≡ Some None
+    → rows_of (set slots slot (Some file))
+    ≡ list_with (rows_of slots) (Some (length (filter (λ entry. not (is_vacant entry)) (take slot slots)))) (listed_file file)
+rows-back [] file slot e = absurd (cc)
+rows-back (None ∷ slots) file zero e = refl
+rows-back (Some first ∷ slots) file zero e = absurd (cc)
+rows-back (None ∷ slots) file (suc slot) e = rows-back slots file slot e
+rows-back (Some first ∷ slots) file (suc slot) e = ap (λ (rows : List ListedFile). listed_file first ∷ rows) (rows-back slots file slot e)
+
+pub undeleted-lists_the_file : UndeletedListsTheFile
+unfolding undeleted_view
+undeleted-lists_the_file image shown slot kind vacant = rows-back shown.slots (file_back image slot kind) slot vacant

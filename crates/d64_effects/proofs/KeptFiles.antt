@@ -73,6 +73,14 @@ kept-with : (rows : List (Option FileView)) (place : Option ℕ) (slot : ℕ) (n
 kept-with rows None slot new file e h = kept-append rows (Some new ∷ replicate 7 None) slot file h
 kept-with rows (Some place) slot new file e h = kept-set rows place slot new file (position-Some is_vacant rows place None e).1 h
 
+-- a file that isn't the new one
+was-set : (rows : List (Option FileView)) (place slot : ℕ) (new file : FileView) → slot ≢ place → Has (set rows place (Some new)) slot file → Has rows slot file
+was-set [] place slot new file other h = h
+was-set (row ∷ rows) zero zero new file other h = absurd (other refl)
+was-set (row ∷ rows) zero (suc slot) new file other h = h
+was-set (row ∷ rows) (suc place) zero new file other h = h
+was-set (row ∷ rows) (suc place) (suc slot) new file other h = was-set rows place slot new file (λ e. other (ap (λ (k : ℕ). suc k) e)) h
+
 -- so on disks
 pub writing-keeps : WritingKeepsFiles
 unfolding written_view
@@ -119,4 +127,5 @@ undeleting-keeps image back kind is sound writable can =
     ap is_vacant (get_or-map (slot_view image) (slots image) back [] None can.there ∙ slot_view-unused image (cell_at image back) can.unused) in (
       ap (λ (shown : View). slice_get shown.slots back) shows ∙ there-set rows back (file_back image back kind) within,
       λ slot file h. ap (λ (shown : View). slice_get shown.slots slot) shows ∙ kept-set rows back slot (file_back image back kind) file vacant h,
+      λ slot file other h. was-set rows back slot (file_back image back kind) file other (sym (ap (λ (shown : View). slice_get shown.slots slot) shows) ∙ h),
     )

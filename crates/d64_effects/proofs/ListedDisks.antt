@@ -1,16 +1,22 @@
 -- what disks list of their files after each command
-use Rattle.std.proofs.Common.{ℕ, length, ap, ◌∙◌}
+use Rattle.std.proofs.Common.{◌≡◌, ℕ, [], length, map, Some, None, ap, ◌∙◌}
+use Rattle.std.specs.Prelude.{slice_get, option_map}
+use Rattle.std.proofs.lemmas.Option.{slice_get-map, slice_get-get_or}
+use Rattle.d64_files.specs.Directory.{slots}
 use Rattle.d64_effects.specs.Contents.{names_and_contents}
 use Rattle.d64_effects.specs.ContentsAfter.{list_with, new_row}
-use Rattle.d64_effects.specs.ContentsLaws.{FormattedDiskHasNoFiles, WrittenDiskLists, ScratchedDiskLists, RenamedDiskLists, NamedDiskLists, ValidatedDiskLists}
-use Rattle.d64_effects.specs.View.{view}
+use Rattle.d64_effects.specs.ContentsLaws.{FormattedDiskHasNoFiles, WrittenDiskLists, ScratchedDiskLists, RenamedDiskLists, NamedDiskLists, ValidatedDiskLists, UndeletedDiskLists}
+use Rattle.d64_effects.specs.Undelete.{cell_at}
+use Rattle.d64_effects.specs.View.{view, slot_view}
 use Rattle.d64_effects.specs.ViewAfter.{first_vacant}
-use Rattle.d64_effects.proofs.ContentSteps.{formatted-lists_nothing, written-lists_the_file, scratched-lists_the_others, renamed-lists_the_name, named-lists_the_same, validated-lists_the_closed}
+use Rattle.d64_effects.proofs.ContentSteps.{formatted-lists_nothing, written-lists_the_file, scratched-lists_the_others, renamed-lists_the_name, named-lists_the_same, validated-lists_the_closed, undeleted-lists_the_file}
 use Rattle.d64_effects.proofs.FormattedDisks.{view-formatted_disk}
+use Rattle.d64_effects.proofs.Frames.{slot_view-unused}
 use Rattle.d64_effects.proofs.NamedDisks.{named-shows}
 use Rattle.d64_effects.proofs.RenamedDisks.{renamed-shows}
 use Rattle.d64_effects.proofs.ScratchedDisks.{scratched-shows}
 use Rattle.d64_effects.proofs.TakenBlocks.{takes}
+use Rattle.d64_effects.proofs.UndeletedDisks.{undeleted-shows}
 use Rattle.d64_effects.proofs.ValidatedDisks.{validated-shows}
 use Rattle.d64_effects.proofs.WrittenDisks.{written-shows}
 
@@ -41,3 +47,12 @@ named-disk_lists image name id is named two sound =
 pub validated-disk_lists : ValidatedDiskLists
 validated-disk_lists image is accepted =
     ap names_and_contents (validated-shows image is accepted) ∙ validated-lists_the_closed (view image)
+
+pub undeleted-disk_lists : UndeletedDiskLists
+unfolding view
+undeleted-disk_lists image slot kind is sound writable can =
+    let vacant : slice_get (map (slot_view image) (slots image)) slot ≡ Some None =
+    slice_get-map (slot_view image) (slots image) slot ∙ ap (option_map (slot_view image)) (slice_get-get_or (slots image) slot [] can.there)
+    ∙ ap Some (slot_view-unused image (cell_at image slot) can.unused) in
+    ap names_and_contents (undeleted-shows image slot kind is sound writable can)
+    ∙ undeleted-lists_the_file image (view image) slot kind vacant

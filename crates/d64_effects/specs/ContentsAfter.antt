@@ -1,13 +1,14 @@
 -- The effect of commands on the directory's list of names and contents: what a case does not name
 -- stays as it was, in order.
-use Rattle.std.specs.Prelude.{ℕ, true, false, if◌then◌else◌, List, [], ◌∷◌, ◌++◌, take, drop, bytes_eq, Bool, Option, Some, None}
+use Rattle.std.specs.Prelude.{ℕ, true, false, not, if◌then◌else◌, List, [], ◌∷◌, ◌++◌, take, drop, length, filter, bytes_eq, Bool, Option, Some, None}
 use Rattle.d64_image.specs.Disk.{Bytes}
 use Rattle.d64_effects.specs.Contents.{ListedFile}
 use Rattle.d64_effects.specs.Delete.{is_deleted_by}
+use Rattle.d64_effects.specs.View.{View}
+use Rattle.d64_effects.specs.ViewAfter.{is_vacant}
 use Rattle.d64_files.specs.declared.kind.Kind.{Kind}
 
--- a list with a new file: at the place of the first empty slot, before which all are used, or else
--- at the end
+-- a list with one file more: at a place, or else at the end
 abbrev pub list_with : List ListedFile → Option ℕ → ListedFile → List ListedFile
 list_with rows (Some place) row = take place rows ++ (row ∷ drop place rows)
 list_with rows None row = rows ++ (row ∷ [])
@@ -15,6 +16,10 @@ list_with rows None row = rows ++ (row ∷ [])
 -- a new file of n blocks: closed, not locked, with these bytes
 abbrev pub new_row : Bytes → Kind → Bytes → ℕ → ListedFile
 new_row name kind bytes blocks = record { name = name; kind = kind; closed = true; locked = false; size = blocks; content = bytes }
+
+-- how many files the list has from the slots before one
+abbrev pub files_before : View → ℕ → ℕ
+files_before shown slot = length (filter (λ entry. not (is_vacant entry)) (take slot shown.slots))
 
 -- whether patterns delete a file of the list
 abbrev pub is_scratched_row : List Bytes → ListedFile → Bool

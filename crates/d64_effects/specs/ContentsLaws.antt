@@ -1,21 +1,22 @@
 -- The effect of the commands on the directory's list of names and contents: on disks, and on views,
 -- whose steps are these steps on that list.
-use Rattle.std.specs.Prelude.{◌≡◌, ℕ, not, List, [], length, filter, Option, IfSome}
+use Rattle.std.specs.Prelude.{◌≡◌, ℕ, not, List, [], length, filter, slice_get, Option, Some, None, IfSome}
 use Rattle.d64_image.specs.Disk.{Disk, Bytes, AreBytes}
 use Rattle.d64_image.specs.Image.{IsSize, IsImage}
 use Rattle.d64_files.specs.Directory.{AllHold}
 use Rattle.d64_files.specs.Name.{IsName}
 use Rattle.d64_files.specs.Writing.{blocks_for}
-use Rattle.d64_effects.specs.Contents.{ListedFile, names_and_contents}
-use Rattle.d64_effects.specs.ContentsAfter.{list_with, new_row, is_scratched_row, renamed_rows}
+use Rattle.d64_effects.specs.Contents.{ListedFile, listed_file, names_and_contents}
+use Rattle.d64_effects.specs.ContentsAfter.{list_with, new_row, files_before, is_scratched_row, renamed_rows}
 use Rattle.d64_effects.specs.Delete.{scratched_disk}
 use Rattle.d64_effects.specs.DiskName.{named_disk}
 use Rattle.d64_effects.specs.Format.{formatted_disk}
 use Rattle.d64_effects.specs.Laws.{AreTwoBytes, HasRoom, IsWritable}
 use Rattle.d64_effects.specs.Rename.{renamed_disk}
+use Rattle.d64_effects.specs.Undelete.{CanComeBack, undeleted_disk}
 use Rattle.d64_effects.specs.Validate.{validated_disk}
 use Rattle.d64_effects.specs.View.{View, IsSound, view}
-use Rattle.d64_effects.specs.ViewAfter.{formatted_view, written_view, first_vacant, scratched_view, renamed_view, named_view, validated_view}
+use Rattle.d64_effects.specs.ViewAfter.{formatted_view, written_view, first_vacant, scratched_view, renamed_view, named_view, validated_view, file_back, undeleted_view}
 use Rattle.d64_effects.specs.Write.{taken_by, written_disk}
 use Rattle.d64_files.specs.declared.kind.Kind.{Kind}
 
@@ -23,7 +24,8 @@ use Rattle.d64_files.specs.declared.kind.Kind.{Kind}
 abbrev pub FormattedListsNothing : Type 0
 FormattedListsNothing = (count : ℕ) (name id : Bytes) → names_and_contents (formatted_view count name id) ≡ []
 
--- writing a file puts that file into the list
+-- writing a file puts that file into the list: at the place of the first empty slot, before which
+-- all are used, or at the end
 abbrev pub WrittenListsTheFile : Type 0
 WrittenListsTheFile =
     (shown : View) (name : Bytes) (kind : Kind) (bytes : Bytes)
@@ -51,6 +53,14 @@ NamedListsTheSame = (shown : View) (name : Bytes) (id : Option Bytes) → names_
 abbrev pub ValidatedListsTheClosed : Type 0
 ValidatedListsTheClosed =
     (shown : View) → names_and_contents (validated_view shown) ≡ filter (λ row. row.closed) (names_and_contents shown)
+
+-- a deleted file comes back behind the files of the slots before its own
+abbrev pub UndeletedListsTheFile : Type 0
+UndeletedListsTheFile =
+    (image : Disk) (shown : View) (slot : ℕ) (kind : Kind)
+    → slice_get shown.slots slot ≡ Some None
+    → names_and_contents (undeleted_view image shown slot kind)
+    ≡ list_with (names_and_contents shown) (Some (files_before shown slot)) (listed_file (file_back image slot kind))
 
 -- the directory's list of a disk
 abbrev pub files_of : Disk → List ListedFile
@@ -92,3 +102,12 @@ NamedDiskLists =
 abbrev pub ValidatedDiskLists : Type 0
 ValidatedDiskLists =
     (image : Disk) → IsImage image → AllHold image 2 5 → files_of (validated_disk image) ≡ filter (λ row. row.closed) (files_of image)
+
+-- a sound disk to which a deleted file comes back lists that file, behind those of the slots before
+-- its own, beside the others
+abbrev pub UndeletedDiskLists : Type 0
+UndeletedDiskLists =
+    (image : Disk) (slot : ℕ) (kind : Kind)
+    → IsImage image → IsSound image → IsWritable kind → CanComeBack image slot
+    → files_of (undeleted_disk image slot kind)
+    ≡ list_with (files_of image) (Some (files_before (view image) slot)) (listed_file (file_back image slot kind))

@@ -55,10 +55,11 @@ ValidatingKeepsClosedFiles =
     → IsImage image → AllHold image 2 5
     → (slot : ℕ) (file : FileView) → file.closed ≡ true → HasFile image slot file → HasFile (validated_disk image) slot file
 
--- bringing back a deleted file keeps every file, and that file is in its slot
+-- bringing back a deleted file keeps every file, that file is in its slot, and no other came
 abbrev pub UndeletingKeepsFiles : Type 0
 UndeletingKeepsFiles =
     (image : Disk) (back : ℕ) (kind : Kind)
     → IsImage image → IsSound image → IsWritable kind → CanComeBack image back
     → HasFile (undeleted_disk image back kind) back (file_back image back kind)
     × ((slot : ℕ) (file : FileView) → HasFile image slot file → HasFile (undeleted_disk image back kind) slot file)
+    × ((slot : ℕ) (file : FileView) → slot ≢ back → HasFile (undeleted_disk image back kind) slot file → HasFile image slot file)

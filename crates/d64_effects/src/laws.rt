@@ -14,8 +14,8 @@ ghost use Rattle.d64_effects.specs.ClearLaws.{ClearingKeepsTheImage, ClearingKee
 ghost use Rattle.d64_effects.specs.ClearLaws.{OneMoreSlotCounts, SlotsWhereAreSlots};
 ghost use Rattle.d64_effects.specs.KeepingLaws.{WritingKeepsFiles, DeletingKeepsOtherFiles, RenamingKeepsOtherFiles, NamingKeepsFiles, ValidatingKeepsClosedFiles, UndeletingKeepsFiles};
 ghost use Rattle.d64_effects.specs.ContentsLaws.{FormattedListsNothing, WrittenListsTheFile, ScratchedListsTheOthers};
-ghost use Rattle.d64_effects.specs.ContentsLaws.{RenamedListsTheName, NamedListsTheSame, ValidatedListsTheClosed};
-ghost use Rattle.d64_effects.specs.ContentsLaws.{FormattedDiskHasNoFiles, WrittenDiskLists, ScratchedDiskLists, RenamedDiskLists, NamedDiskLists, ValidatedDiskLists};
+ghost use Rattle.d64_effects.specs.ContentsLaws.{RenamedListsTheName, NamedListsTheSame, ValidatedListsTheClosed, UndeletedListsTheFile};
+ghost use Rattle.d64_effects.specs.ContentsLaws.{FormattedDiskHasNoFiles, WrittenDiskLists, ScratchedDiskLists, RenamedDiskLists, NamedDiskLists, ValidatedDiskLists, UndeletedDiskLists};
 
 /// A formatted disk is a sound image with 664 blocks free on 35 tracks, or 749 on 40, which shows
 /// its name and id and no file.
@@ -98,7 +98,7 @@ pub fn deleted_file_comes_back()
 /// a disk shows of it. When a file is written, every file is kept; when files are deleted, those
 /// that are locked, not closed or matched by no pattern; when a file is renamed, those of other
 /// names; when the disk gets a new name, every file; by a validation, those that are closed; and
-/// when a deleted file comes back, every file.
+/// when a deleted file comes back, every file, and no other comes.
 pub fn files_that_are_not_named_stay()
     ensures writing { WritingKeepsFiles }
     ensures deleting { DeletingKeepsOtherFiles }
@@ -117,13 +117,15 @@ pub fn steps_change_the_list_of_files()
     ensures renamed { RenamedListsTheName }
     ensures named { NamedListsTheSame }
     ensures validated { ValidatedListsTheClosed }
+    ensures undeleted { UndeletedListsTheFile }
 {}
 
 /// Each file command changes the directory's list of names and contents as it says, on a sound
 /// disk: a formatted disk lists nothing; a written file comes at the place of the first empty slot,
-/// or at the end; deleted files are gone, a renamed one has its new name, and after a validation
-/// the closed files are left. The other files of the list stay as they were, in order, and so do
-/// all files when the disk gets a new name.
+/// or at the end; deleted files are gone, a renamed one has its new name, after a validation the
+/// closed files are left, and one that is undeleted comes behind the files of the slots before its
+/// own. The other files of the list stay as they were, in order, and so do all files when the disk
+/// gets a new name.
 pub fn commands_change_the_list_of_files()
     ensures formatted { FormattedDiskHasNoFiles }
     ensures written { WrittenDiskLists }
@@ -131,4 +133,5 @@ pub fn commands_change_the_list_of_files()
     ensures renamed { RenamedDiskLists }
     ensures named { NamedDiskLists }
     ensures validated { ValidatedDiskLists }
+    ensures undeleted { UndeletedDiskLists }
 {}

@@ -1,4 +1,4 @@
-use Rattle.d64_effects.proofs.ListedDisks.{formatted-disk_lists, written-disk_lists, scratched-disk_lists, renamed-disk_lists, named-disk_lists, validated-disk_lists}
+use Rattle.d64_effects.proofs.ListedDisks.{formatted-disk_lists, written-disk_lists, scratched-disk_lists, renamed-disk_lists, named-disk_lists, validated-disk_lists, undeleted-disk_lists}
 use Rattle.d64_effects.proofs.laws.commands_change_the_list_of_files.Goals as goal
 
 pub returns-clause-formatted : goal.returns-clause-formatted
@@ -18,3 +18,6 @@ returns-clause-validated c = validated-disk_lists
 
 pub returns-clause-named : goal.returns-clause-named
 returns-clause-named c = named-disk_lists
+
+pub returns-clause-undeleted : goal.returns-clause-undeleted
+returns-clause-undeleted c = undeleted-disk_lists
