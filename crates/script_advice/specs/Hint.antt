@@ -1,6 +1,6 @@
 -- The hints for the commands of `c1541`, and for other names that people try.
 use Rattle.std.specs.Prelude.{List, [], ◌∷◌, Option, option_map, find, unwrap_or, codes}
-use Rattle.std.specs.Str.{bytes_eq}
+use Rattle.std.specs.Str.{str_eq_ignore_ascii_case}
 use Rattle.d64_image.specs.Disk.{Bytes}
 
 -- the names that are no commands, each with its hint
@@ -42,18 +42,21 @@ hints =
     ∷ (codes "geosread", codes "; d64sh has no command for this")
     ∷ (codes "geoswrite", codes "; d64sh has no command for this")
     ∷ (codes "p00save", codes "; d64sh has no command for this")
+    ∷ (codes "lock", codes "; d64sh has no command for this")
     ∷ (codes "parse", codes "; d64sh has no command for this")
     ∷ (codes "silent", codes "; d64sh has no command for this")
     ∷ (codes "tape", codes "; d64sh has no command for this")
+    ∷ (codes "unlock", codes "; d64sh has no command for this")
     ∷ (codes "unlynx", codes "; d64sh has no command for this")
     ∷ (codes "unzip", codes "; d64sh has no command for this")
     ∷ (codes "verbose", codes "; d64sh has no command for this")
     ∷ (codes "zcreate", codes "; d64sh has no command for this")
     ∷ []
 
--- the hint for a name that is no command, if there is one
+-- the hint for a name that is no command, if there is one: capitals and small letters count as the
+-- same
 abbrev pub hint_for : Bytes → Option Bytes
-hint_for name = option_map (λ row. row.1) (find (λ row. bytes_eq name row.0) hints)
+hint_for name = option_map (λ row. row.1) (find (λ row. str_eq_ignore_ascii_case name row.0) hints)
 
 -- what is said of a name that is no command: its hint, or where the commands are listed
 abbrev pub hint_text : Bytes → Bytes

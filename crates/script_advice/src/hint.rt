@@ -2,6 +2,8 @@
 ghost use Rattle.std.specs.Prelude.{◌≡◌, map, option_copied};
 ghost use Rattle.script_advice.specs.Hint.{hint_for, hint_text, hints};
 
+use crate::near::is_same_name;
+
 const NAME_THE_IMAGE: &[u8] = b"; name the image at the start: d64sh shell IMAGE";
 
 const CHECK: &[u8] = b"; d64sh check inspects a disk";
@@ -63,9 +65,11 @@ fn hints() -> &'static [(&'static str, &'static [u8])]
         ("geosread", ABSENT),
         ("geoswrite", ABSENT),
         ("p00save", ABSENT),
+        ("lock", ABSENT),
         ("parse", ABSENT),
         ("silent", ABSENT),
         ("tape", ABSENT),
+        ("unlock", ABSENT),
         ("unlynx", ABSENT),
         ("unzip", ABSENT),
         ("verbose", ABSENT),
@@ -73,12 +77,12 @@ fn hints() -> &'static [(&'static str, &'static [u8])]
     ]
 }
 
-/// The hint for a name that is no command, if there is one.
+/// The hint for a name that is no command, in whatever letters, if there is one.
 pub(crate) fn hint_for(name: &str) -> Option<&'static [u8]>
     ensures { option_copied result ≡ hint_for name.now }
 {
     for (other, hint) in hints() {
-        if name == *other {
+        if is_same_name(name, other) {
             return Some(hint);
         }
     }

@@ -45,7 +45,14 @@ fn first_near(name: &str) -> Option<LineCommand>
 fn has_name_of(name: &str, command: LineCommand) -> bool
     ensures { result ≡ has_name_of name.now command }
 {
-    are_same(name.as_bytes(), command.name().as_bytes())
+    is_same_name(name, command.name())
+}
+
+/// Whether two names are the same but for capitals and small letters.
+pub(crate) fn is_same_name(name: &str, other: &str) -> bool
+    ensures { result ≡ str_eq_ignore_ascii_case name.now other.now }
+{
+    are_same(name.as_bytes(), other.as_bytes())
 }
 
 /// Whether a command's name is near.
