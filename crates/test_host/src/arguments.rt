@@ -4,10 +4,9 @@
 //! The rows are text, since that is proved and compiled once for all of them: the arguments after
 //! the program's name, with `|` between them, then ` => ` and the expected result.
 
-use host_storage::WriteFault;
-use program_arguments::{JobFault, job};
-use std::alloc::Global;
-use std::test::Fail;
+use program_arguments::{Job, JobFault, job};
+use std::alloc::{AllocError, Global};
+use std::process::Abort;
 
 /// Arguments, and their job as `Debug` prints it.
 const JOBS: &str = "\
@@ -207,84 +206,82 @@ merge|--help => Example: d64sh merge -o best.d64 first.d64 second.d64 third.g64
 catalogue|--help => Example: d64sh catalogue --maps *.d64 >disks.html
 -V => d64sh 0.3.0";
 
-/// Returns the program's name and the arguments before ` => ` in a row, and the text after it.
-fn parted<'a>(alloc: Global, row: &'a str) -> Result<(Vec<&'a str>, &'a str), Fail> {
-    let (given, wanted) = row.split_once(" => ").ok_or("a row without an end")?;
+/// Returns the program's name and the arguments of a row.
+fn arguments_of<'a>(alloc: Global, given: &'a str) -> Result<Vec<&'a str>, AllocError> {
     let mut arguments = Vec::new(alloc);
     arguments.push("d64sh")?;
     for argument in given.split('|') {
         arguments.push(argument)?;
     }
-    Ok((arguments, wanted))
+    Ok(arguments)
 }
 
-#[test]
-fn takes_arguments_for_jobs(rt: HostRuntime) -> Result<(), Fail> {
-    for row in JOBS.lines() {
-        let (arguments, wanted) = parted(rt.alloc(), row)?;
-        let job = job(rt.alloc(), arguments.as_slice())?;
-        let shown = format!(in rt.alloc(); "{job:?}")?;
-        assert_eq!(rt; shown.as_str(), wanted);
+/// Whether `Debug` prints a job so.
+fn is_printed(alloc: Global, job: &Job, wanted: &str) -> bool {
+    match format!(in alloc; "{job:?}") {
+        Ok(shown) => shown.as_str() == wanted,
+        Err(AllocError) => false,
     }
-    Ok(())
 }
 
-/// Whether the text for these arguments has this line, and whether the arguments asked for it.
-fn is_shown(
-    alloc: Global,
-    arguments: &[&str],
-    line: &str,
-    is_help_or_version: bool,
-) -> Result<bool, Fail> {
-    let Err(fault) = job(alloc, arguments) else {
-        return Ok(false);
-    };
-    let text = format!(in alloc; "{fault}")?;
-    let has_line = text.as_str().lines().any(|known| known == line);
-    Ok(has_line && fault.is_help_or_version() == is_help_or_version)
+/// Whether the text of a fault has this line.
+fn has_line(alloc: Global, fault: &JobFault, line: &str) -> bool {
+    match fault.to_string(alloc) {
+        Ok(text) => text.as_str().lines().any(|known| known == line),
+        Err(AllocError) => false,
+    }
 }
 
-/// Returns the first row whose text does not have its line.
-fn first_unshown<'a>(
-    alloc: Global,
-    rows: &'a str,
-    is_help_or_version: bool,
-) -> Result<Option<&'a str>, Fail> {
-    for row in rows.lines() {
-        let (arguments, line) = parted(alloc, row)?;
-        if !is_shown(alloc, arguments.as_slice(), line, is_help_or_version)? {
-            return Ok(Some(row));
+/// Whether these arguments ask for the job that is printed so, or a text with this line is shown:
+/// for they asked for it, or because they are refused. No job is printed as a line of such a text.
+fn is_met(alloc: Global, arguments: &[&str], text: &str, is_asked_for: bool) -> bool {
+    match job(alloc, arguments) {
+        Ok(job) => is_printed(alloc, &job, text),
+        Err(fault) => {
+            fault.is_help_or_version() == is_asked_for && has_line(alloc, &fault, text)
         }
     }
-    Ok(None)
 }
 
-#[test]
-fn says_what_is_wrong(rt: HostRuntime) -> Result<(), Fail> {
-    assert_eq!(rt; first_unshown(rt.alloc(), REFUSED, false)?, None);
-    Ok(())
-}
-
-#[test]
-fn shows_help_and_version(rt: HostRuntime) -> Result<(), Fail> {
-    assert_eq!(rt; first_unshown(rt.alloc(), SHOWN, true)?, None);
-    Ok(())
-}
-
-#[test]
-fn wants_a_subcommand(rt: HostRuntime) -> Result<(), Fail> {
-    for arguments in [&[][..], &["d64sh"]] {
-        assert!(rt; is_shown(rt.alloc(), arguments, "Usage: d64sh <COMMAND>", false)?);
+/// Whether a row holds.
+fn holds(alloc: Global, row: &str, is_asked_for: bool) -> Result<bool, AllocError> {
+    match row.split_once(" => ") {
+        Some((given, text)) => {
+            let arguments = arguments_of(alloc, given)?;
+            Ok(is_met(alloc, &arguments, text, is_asked_for))
+        }
+        None => Ok(false),
     }
-    Ok(())
+}
+
+/// Checks each row of a text.
+fn hold(rt: &(impl Abort + AllocGlobal), rows: &str, is_asked_for: bool) {
+    for row in rows.lines() {
+        assert!(rt;
+            matches!(holds(rt.alloc(), row, is_asked_for), Ok(true)),
+            "{row}"
+        );
+    }
 }
 
 #[test]
-fn shows_faults_that_no_arguments_make(rt: HostRuntime) -> Result<(), Fail> {
-    let shown = format!(in rt.alloc(); "{}", JobFault::Memory)?;
-    assert_eq!(rt; shown.as_str(), "out of memory");
-    let fault = WriteFault;
-    let shown = format!(in rt.alloc(); "{fault}")?;
-    assert_eq!(rt; shown.as_str(), "the output took no more bytes");
-    Ok(())
+fn takes_arguments_for_jobs(rt: HostRuntime) {
+    hold(&rt, JOBS, false);
+}
+
+#[test]
+fn says_what_is_wrong(rt: HostRuntime) {
+    hold(&rt, REFUSED, false);
+}
+
+#[test]
+fn shows_help_and_version(rt: HostRuntime) {
+    hold(&rt, SHOWN, true);
+}
+
+#[test]
+fn wants_a_subcommand(rt: HostRuntime) {
+    for arguments in [&[][..], &["d64sh"]] {
+        assert!(rt; is_met(rt.alloc(), arguments, "Usage: d64sh <COMMAND>", false));
+    }
 }

@@ -2,7 +2,6 @@
 
 use host_storage::Retrying;
 use std::io::{self, ErrorKind, Read, Write};
-use std::test::Fail;
 
 /// A stream that fails once with an error of some kind, and then gives or takes one byte a call.
 #[derive(Drop)]
@@ -32,47 +31,54 @@ impl Write for FailsOnce {
     }
 }
 
-#[test]
-fn reads_on_after_an_interrupt_alone(rt: HostRuntime) -> Result<(), Fail> {
-    let mut buffer = [0; 4];
-    let mut interrupted = Retrying(FailsOnce {
-        kind: Some(ErrorKind::Interrupted),
-    });
-    assert_eq!(rt; interrupted.read(&mut buffer)?, 1);
-    for kind in [
-        ErrorKind::BrokenPipe,
-        ErrorKind::PermissionDenied,
-        ErrorKind::Other,
-        ErrorKind::UnexpectedEof,
-    ] {
-        let mut broken = Retrying(FailsOnce { kind: Some(kind) });
-        match broken.read(&mut buffer) {
-            Err(error) => assert!(rt; error.kind() == kind),
-            Ok(_) => assert!(rt; false, "read on after another error"),
-        }
+/// The kinds of errors after which nothing is read, and those after which nothing is written.
+const READ_ERRORS: [ErrorKind; 4] = [
+    ErrorKind::BrokenPipe,
+    ErrorKind::PermissionDenied,
+    ErrorKind::Other,
+    ErrorKind::UnexpectedEof,
+];
+
+const WRITE_ERRORS: [ErrorKind; 4] = [
+    ErrorKind::BrokenPipe,
+    ErrorKind::StorageFull,
+    ErrorKind::Other,
+    ErrorKind::WriteZero,
+];
+
+/// Reads from a stream that first fails with an error of this kind, and returns how many bytes
+/// came, or the kind of the error.
+fn read_after(kind: ErrorKind) -> Result<usize, ErrorKind> {
+    let mut stream = Retrying(FailsOnce { kind: Some(kind) });
+    match stream.read(&mut [0; 4]) {
+        Ok(count) => Ok(count),
+        Err(error) => Err(error.kind()),
     }
-    Ok(())
 }
 
 #[test]
-fn writes_on_after_an_interrupt_alone(rt: HostRuntime) -> Result<(), Fail> {
-    let mut interrupted = Retrying(FailsOnce {
-        kind: Some(ErrorKind::Interrupted),
-    });
-    assert_eq!(rt; interrupted.write(b"ab")?, 1);
-    for kind in [
-        ErrorKind::BrokenPipe,
-        ErrorKind::StorageFull,
-        ErrorKind::Other,
-        ErrorKind::WriteZero,
-    ] {
-        let mut broken = Retrying(FailsOnce { kind: Some(kind) });
-        match broken.write(b"ab") {
-            Err(error) => assert!(rt; error.kind() == kind),
-            Ok(_) => assert!(rt; false, "wrote on after another error"),
-        }
+fn reads_on_after_an_interrupt_alone(rt: HostRuntime) {
+    assert!(rt; read_after(ErrorKind::Interrupted) == Ok(1));
+    for kind in READ_ERRORS {
+        assert!(rt; read_after(kind) == Err(kind), "{kind:?}");
     }
-    Ok(())
+}
+
+/// Writes two bytes to such a stream, and returns how many it took, or the kind of the error.
+fn write_after(kind: ErrorKind) -> Result<usize, ErrorKind> {
+    let mut stream = Retrying(FailsOnce { kind: Some(kind) });
+    match stream.write(b"ab") {
+        Ok(count) => Ok(count),
+        Err(error) => Err(error.kind()),
+    }
+}
+
+#[test]
+fn writes_on_after_an_interrupt_alone(rt: HostRuntime) {
+    assert!(rt; write_after(ErrorKind::Interrupted) == Ok(1));
+    for kind in WRITE_ERRORS {
+        assert!(rt; write_after(kind) == Err(kind), "{kind:?}");
+    }
 }
 
 /// A reader that gives one byte a read, and each of whose reads is interrupted once.
@@ -98,16 +104,17 @@ impl Read for Stutter {
 }
 
 #[test]
-fn reads_on_where_each_read_is_interrupted(rt: HostRuntime) -> Result<(), Fail> {
+fn reads_on_where_each_read_is_interrupted(rt: HostRuntime) {
     let mut reader = Retrying(Stutter {
         left: 3,
         interrupted: false,
     });
     let mut buffer = [0; 1];
     for byte in [3, 2, 1] {
-        assert_eq!(rt; reader.read(&mut buffer)?, 1);
-        assert_eq!(rt; buffer[0], byte);
+        assert!(rt;
+            matches!(reader.read(&mut buffer), Ok(1)) && buffer[0] == byte,
+            "{byte}"
+        );
     }
-    assert_eq!(rt; reader.read(&mut buffer)?, 0);
-    Ok(())
+    assert!(rt; matches!(reader.read(&mut buffer), Ok(0)));
 }
