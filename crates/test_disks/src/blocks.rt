@@ -4,7 +4,7 @@ use d64_image::BlockNo;
 
 /// Returns how many sectors a track has, as the 1541 User's Guide lists them; tracks 36 to 40 have
 /// as many as the last ones before them.
-fn sectors_of_a_track(track: usize) -> usize {
+fn sectors_of_a_track(track: u8) -> u8 {
     match track {
         1..=17 => 21,
         18..=24 => 19,
@@ -35,16 +35,23 @@ fn is_at(track: u8, sector: u8, index: usize) -> bool {
     }
 }
 
+/// Whether a pair is the block at a place, or no block if its track has no such sector.
+fn is_as_counted(track: u8, sector: u8, count: usize) -> bool {
+    if sector < sectors_of_a_track(track) {
+        is_at(track, sector, count)
+    } else {
+        BlockNo::of(track, sector).is_none()
+    }
+}
+
 #[test]
 fn pairs_and_blocks_are_as_a_plain_count_has_them(rt: HostRuntime) {
     let mut count = 0;
-    for pair in 0..65536 {
-        let (track, sector) = (pair / 256, pair % 256);
+    for pair in 0..65536_usize {
+        let (track, sector) = ((pair / 256) as u8, (pair % 256) as u8);
+        assert!(rt; is_as_counted(track, sector, count), "{pair}");
         if sector < sectors_of_a_track(track) {
-            assert!(rt; is_at(track as u8, sector as u8, count), "{pair}");
             count = count.saturating_add(1);
-        } else {
-            assert!(rt; BlockNo::of(track as u8, sector as u8).is_none(), "{pair}");
         }
     }
     assert!(rt; count == 768 && BlockNo::at(count).is_none());
@@ -52,7 +59,7 @@ fn pairs_and_blocks_are_as_a_plain_count_has_them(rt: HostRuntime) {
 
 #[test]
 fn blocks_are_at_their_places(rt: HostRuntime) {
-    for row in PLACES {
+    for row in &PLACES {
         assert!(rt; is_at(row.0, row.1, row.2), "{row:?}");
     }
 }

@@ -3,6 +3,7 @@
 use d64_undo::{ResumeFault, SessionReadFault, resume_from};
 use std::alloc::Global;
 use std::io::{self, ErrorKind, Read};
+use std::process::Abort;
 use std::test::Fail;
 
 /// A reader that gives bytes in pieces, and then fails or is at its end.
@@ -28,20 +29,33 @@ fn fault_of(alloc: Global, bytes: &[u8], fails: bool, limit: u32) -> Option<Sess
     resume_from(alloc, &mut reader, limit).err()
 }
 
-#[test]
-fn a_read_that_fails_comes_before_other_faults(rt: HostRuntime) -> Result<(), Fail> {
-    let other = vec![in rt.alloc(); 0x44u8; 500_000]?;
-    for bytes in [other.as_slice(), b"D64S", b""] {
+/// Checks that a read that fails is reported, whatever came before it.
+fn report_the_read(rt: &(impl Abort + AllocGlobal), other: &[u8]) {
+    for bytes in [other, b"D64S", b""] {
         assert!(rt; fault_of(rt.alloc(), bytes, true, 600_000) == Some(SessionReadFault::Device));
     }
+}
+
+/// Checks that one byte more than the limit is reported, and that none more is not.
+fn report_the_length(rt: &(impl Abort + AllocGlobal), other: &[u8]) {
+    let no_session = Some(SessionReadFault::Resume(ResumeFault::NotSession));
+    assert!(rt; fault_of(rt.alloc(), other, false, 499_999) == Some(SessionReadFault::TooLong));
+    assert!(rt; fault_of(rt.alloc(), other, false, 500_000) == no_session);
+}
+
+/// Returns bytes that are no session file.
+fn other_bytes(alloc: Global) -> Result<Vec<u8>, Fail> {
+    Ok(vec![in alloc; 0x44u8; 500_000]?)
+}
+
+#[test]
+fn a_read_that_fails_comes_before_other_faults(rt: HostRuntime) -> Result<(), Fail> {
+    report_the_read(&rt, &other_bytes(rt.alloc())?);
     Ok(())
 }
 
 #[test]
 fn a_byte_too_many_comes_before_other_bytes(rt: HostRuntime) -> Result<(), Fail> {
-    let other = vec![in rt.alloc(); 0x44u8; 500_000]?;
-    let no_session = Some(SessionReadFault::Resume(ResumeFault::NotSession));
-    assert!(rt; fault_of(rt.alloc(), &other, false, 499_999) == Some(SessionReadFault::TooLong));
-    assert!(rt; fault_of(rt.alloc(), &other, false, 500_000) == no_session);
+    report_the_length(&rt, &other_bytes(rt.alloc())?);
     Ok(())
 }

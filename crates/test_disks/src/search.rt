@@ -20,29 +20,38 @@ fn all_blocks() -> BlockSet {
     blocks_between(0, BLOCKS_OF_35)
 }
 
-/// Returns the track and the sector at a place in the order of search among these blocks after a
-/// block: the one that is picked once all before it are taken.
-fn next_of(all: BlockSet, track: u8, sector: u8, place: usize) -> Option<(u8, u8)> {
-    let last = BlockNo::of(track, sector)?;
-    let mut free = all;
-    for _ in 0..place {
-        if let Some(block) = pick_next(&free, last) {
-            free.remove(block);
-        }
-    }
-    pick_next(&free, last).map(|block| (block.track(), block.sector()))
+/// What a block is searched for.
+#[derive(Clone, Copy)]
+enum Use {
+    File,
+    Directory,
 }
 
-/// Returns the same on 35 tracks for the directory.
-fn dir_at(track: u8, sector: u8, place: usize) -> Option<(u8, u8)> {
-    let last = BlockNo::of(track, sector)?;
-    let mut free = all_blocks();
+/// Returns the block that is picked after another.
+fn picked(free: &BlockSet, last: BlockNo, for_what: Use) -> Option<BlockNo> {
+    match for_what {
+        Use::File => pick_next(free, last),
+        Use::Directory => pick_dir(free, last),
+    }
+}
+
+/// Returns the track and the sector of a block, if there is one.
+fn pair_of(block: Option<BlockNo>) -> Option<(u8, u8)> {
+    let block = block?;
+    Some((block.track(), block.sector()))
+}
+
+/// Returns the track and the sector at a place in the order of search among these blocks after a
+/// block: the one that is picked once all before it are taken.
+fn found(all: BlockSet, from: (u8, u8), place: usize, for_what: Use) -> Option<(u8, u8)> {
+    let last = BlockNo::of(from.0, from.1)?;
+    let mut free = all;
     for _ in 0..place {
-        if let Some(block) = pick_dir(&free, last) {
+        if let Some(block) = picked(&free, last, for_what) {
             free.remove(block);
         }
     }
-    pick_dir(&free, last).map(|block| (block.track(), block.sector()))
+    pair_of(picked(&free, last, for_what))
 }
 
 /// A block, a place in the order of search after it, and the track and the sector at that place.
@@ -89,11 +98,24 @@ const NEXT_OF_40: [Searched; 10] = [
     (40, 16, 748, 39, 16),
 ];
 
+/// On 35 tracks, for the directory.
+const DIRECTORY: [Searched; 9] = [
+    (18, 1, 0, 18, 4),
+    (18, 1, 1, 18, 5),
+    (18, 1, 15, 18, 0),
+    (18, 1, 18, 18, 3),
+    (18, 18, 0, 18, 1),
+    (18, 18, 18, 18, 0),
+    (18, 16, 0, 18, 0),
+    (17, 3, 0, 18, 0),
+    (17, 3, 18, 18, 18),
+];
+
 /// Checks that each block comes at its place among these blocks.
-fn come_in_order(rt: &impl Abort, all: BlockSet, rows: &[Searched]) {
+fn come_in_order(rt: &impl Abort, all: BlockSet, rows: &[Searched], for_what: Use) {
     for row in rows {
         assert!(rt;
-            next_of(all, row.0, row.1, row.2) == Some((row.3, row.4)),
+            found(all, (row.0, row.1), row.2, for_what) == Some((row.3, row.4)),
             "{row:?}"
         );
     }
@@ -101,40 +123,26 @@ fn come_in_order(rt: &impl Abort, all: BlockSet, rows: &[Searched]) {
 
 #[test]
 fn next_blocks_come_in_the_written_order(rt: HostRuntime) {
-    come_in_order(&rt, all_blocks(), &NEXT);
-    assert!(rt; next_of(all_blocks(), 17, 0, 664).is_none());
+    come_in_order(&rt, all_blocks(), &NEXT, Use::File);
+    assert!(rt; found(all_blocks(), (17, 0), 664, Use::File).is_none());
 }
 
 #[test]
 fn tracks_36_to_40_come_in_the_written_order(rt: HostRuntime) {
-    come_in_order(&rt, blocks_between(0, BLOCKS), &NEXT_OF_40);
-    assert!(rt; next_of(blocks_between(0, BLOCKS), 17, 0, 749).is_none());
+    let all = blocks_between(0, BLOCKS);
+    come_in_order(&rt, all, &NEXT_OF_40, Use::File);
+    assert!(rt; found(all, (17, 0), 749, Use::File).is_none());
 }
-
-/// A block, a place in the order of search after it for the directory, and the sector there.
-const DIRECTORY: [(u8, u8, usize, u8); 9] = [
-    (18, 1, 0, 4),
-    (18, 1, 1, 5),
-    (18, 1, 15, 0),
-    (18, 1, 18, 3),
-    (18, 18, 0, 1),
-    (18, 18, 18, 0),
-    (18, 16, 0, 0),
-    (17, 3, 0, 0),
-    (17, 3, 18, 18),
-];
 
 #[test]
 fn directory_blocks_come_in_the_written_order(rt: HostRuntime) {
-    for row in DIRECTORY {
-        assert!(rt; dir_at(row.0, row.1, row.2) == Some((18, row.3)), "{row:?}");
-    }
-    assert!(rt; dir_at(18, 1, 19).is_none());
+    come_in_order(&rt, all_blocks(), &DIRECTORY, Use::Directory);
+    assert!(rt; found(all_blocks(), (18, 1), 19, Use::Directory).is_none());
 }
 
 /// Returns the track and the sector of the first block that is picked.
 fn first_of(free: &BlockSet) -> Option<(u8, u8)> {
-    pick_first(free).map(|block| (block.track(), block.sector()))
+    pair_of(pick_first(free))
 }
 
 #[test]
