@@ -1,36 +1,53 @@
 //! Programs as the machine keeps them, and their texts.
 
-use cbm_text::{BasicFault, Cause, ListFault, crunch, faulty_lines, list};
+use crate::shown::have_texts;
+use cbm_text::{BasicFault, Cause, FaultyLine, ListFault, crunch, faulty_lines, list};
 use petscii::TextFault;
 use std::alloc::{AllocError, Global};
-use std::process::Abort;
-use std::test::Fail;
 
 /// The keywords in the order of their tokens, in text form.
 const KEYWORDS: &str =
     "end for next data input# input dim read let goto run if restore gosub return rem stop on wait load save verify def poke print# print cont list clr cmd sys open close get new tab( to fn spc( then not step + - * / ^ and or > = < sgn int abs usr fre pos sqr rnd log exp cos sin tan atn peek len str$ val asc chr$ left$ right$ mid$ go";
 
-/// Checks the bytes that a program loaded at $0801 crunches to, and its text again.
-fn crunches_and_lists(alloc: Global, text: &str, file: &[u8], listing: &str) -> Result<bool, Fail> {
-    let crunched = crunch(alloc, 0x0801, text.as_bytes())?;
-    let listed = list(alloc, file)?;
-    Ok(crunched.as_slice() == file && listed.as_slice() == listing.as_bytes())
+/// Whether a text crunches to these bytes of a program loaded at $0801.
+fn crunches_to(alloc: Global, text: &str, file: &[u8]) -> bool {
+    match crunch(alloc, 0x0801, text.as_bytes()) {
+        Ok(crunched) => crunched.as_slice() == file,
+        Err(_) => false,
+    }
+}
+
+/// Whether a program has this text.
+fn lists_as(alloc: Global, file: &[u8], text: &[u8]) -> bool {
+    match list(alloc, file) {
+        Ok(listed) => listed.as_slice() == text,
+        Err(_) => false,
+    }
+}
+
+/// Whether these are the first line and the third of the text below, and what is wrong with them.
+fn are_faulty(lines: &[FaultyLine<'_>]) -> bool {
+    let [first, second] = lines else {
+        return false;
+    };
+    first.fault == BasicFault::TokenByte { line: 1 }
+        && first.cause == Cause::Capital
+        && first.text == b"10 PRINT".as_slice()
+        && second.fault == BasicFault::NoNumber { line: 3 }
+        && second.cause == Cause::NoNumber
+}
+
+/// Whether a text with three faulty lines, of which two are asked for, has these.
+fn finds_them(alloc: Global) -> bool {
+    match faulty_lines(alloc, 0x0801, b"10 PRINT\n20 end\nend\n\n30 end\t\n", 2) {
+        Ok(found) => found.count == 3 && are_faulty(found.lines.as_slice()),
+        Err(AllocError) => false,
+    }
 }
 
 #[test]
-fn finds_faulty_lines(rt: HostRuntime) -> Result<(), Fail> {
-    let text = b"10 PRINT\n20 end\nend\n\n30 end\t\n";
-    let found = faulty_lines(rt.alloc(), 0x0801, text, 2)?;
-    assert_eq!(rt; found.count, 3);
-    let [first, second] = found.lines.as_slice() else {
-        return Err(Fail::new("not two lines"));
-    };
-    assert_eq!(rt; first.fault, BasicFault::TokenByte { line: 1 });
-    assert_eq!(rt; first.cause, Cause::Capital);
-    assert_eq!(rt; first.text, b"10 PRINT".as_slice());
-    assert_eq!(rt; second.fault, BasicFault::NoNumber { line: 3 });
-    assert_eq!(rt; second.cause, Cause::NoNumber);
-    Ok(())
+fn finds_faulty_lines(rt: HostRuntime) {
+    assert!(rt; finds_them(rt.alloc()));
 }
 
 /// Texts, the programs that they crunch to, and the texts of these.
@@ -89,14 +106,13 @@ const PROGRAMS: [(&str, &[u8], &str); 11] = [
 ];
 
 #[test]
-fn crunches_as_the_machine_does(rt: HostRuntime) -> Result<(), Fail> {
+fn crunches_as_the_machine_does(rt: HostRuntime) {
     for (text, file, listing) in &PROGRAMS {
         assert!(rt;
-            crunches_and_lists(rt.alloc(), text, file, listing)?,
+            crunches_to(rt.alloc(), text, file) && lists_as(rt.alloc(), file, listing.as_bytes()),
             "of {text:?}"
         );
     }
-    Ok(())
 }
 
 /// Texts, and the first fault of each.
@@ -118,29 +134,35 @@ const FAULTS: [(&str, BasicFault); 9] = [
     ("1 rem{$00}\na", BasicFault::ZeroByte { line: 1 }),
 ];
 
-#[test]
-fn reports_the_first_fault(rt: HostRuntime) {
-    for (text, fault) in &FAULTS {
-        let found = crunch(rt.alloc(), 0x0801, text.as_bytes()).err();
-        assert_eq!(rt; found.as_ref(), Some(fault), "of {text:?}");
+/// Whether this is the first fault of a text.
+fn is_refused(alloc: Global, text: &str, fault: &BasicFault) -> bool {
+    match crunch(alloc, 0x0801, text.as_bytes()) {
+        Ok(_) => false,
+        Err(found) => found == *fault,
     }
 }
 
-/// Checks the text of a program.
-fn expect_listing<R: Abort + AllocGlobal>(rt: &R, file: &[u8], text: &[u8]) -> Result<(), Fail> {
-    let listed = list(rt.alloc(), file)?;
-    assert_eq!(rt; listed.as_slice(), text);
-    Ok(())
+#[test]
+fn reports_the_first_fault(rt: HostRuntime) {
+    for (text, fault) in &FAULTS {
+        assert!(rt; is_refused(rt.alloc(), text, fault), "of {text:?}");
+    }
 }
 
-#[test]
-fn lists_what_reads_as_a_program(rt: HostRuntime) -> Result<(), Fail> {
-    expect_listing(&rt, b"\x01\x08\xff\xff\x0a\x00A\x00\x00\x00w", b"10 a\n")?;
-    expect_listing(
-        &rt,
+/// Programs, and their texts.
+const LISTINGS: [(&[u8], &[u8]); 2] = [
+    (b"\x01\x08\xff\xff\x0a\x00A\x00\x00\x00w", b"10 a\n"),
+    (
         b"\x01\x08\x01\x00\x0a\x00\xcc\x80\"\x80\x00\x00\x00",
         b"10 Lend\"{$80}\n",
-    )
+    ),
+];
+
+#[test]
+fn lists_what_reads_as_a_program(rt: HostRuntime) {
+    for (file, text) in &LISTINGS {
+        assert!(rt; lists_as(rt.alloc(), file, text), "{file:?}");
+    }
 }
 
 /// Files that are no programs, and why.
@@ -153,28 +175,40 @@ const NO_PROGRAMS: [(&[u8], ListFault); 6] = [
     (b"\x01\x08\x0e\x08\x0a\x00A", ListFault::Truncated),
 ];
 
-#[test]
-fn lists_no_other_file(rt: HostRuntime) {
-    for (file, fault) in &NO_PROGRAMS {
-        let found = list(rt.alloc(), file).err();
-        assert_eq!(rt; found.as_ref(), Some(fault));
+/// Whether a file is no program, for this reason.
+fn is_no_program(alloc: Global, file: &[u8], fault: &ListFault) -> bool {
+    match list(alloc, file) {
+        Ok(_) => false,
+        Err(found) => found == *fault,
     }
 }
 
 #[test]
-fn knows_each_keyword_alone(rt: HostRuntime) -> Result<(), Fail> {
+fn lists_no_other_file(rt: HostRuntime) {
+    for (file, fault) in &NO_PROGRAMS {
+        assert!(rt; is_no_program(rt.alloc(), file, fault), "{file:?}");
+    }
+}
+
+/// Whether a line with a keyword alone crunches to this token, and lists as the keyword.
+fn is_keyword(alloc: Global, keyword: &str, token: u8) -> bool {
+    let file = [1, 8, 7, 8, 7, 0, token, 0, 0, 0];
+    match format!(in alloc; "7 {keyword}\n") {
+        Ok(text) => {
+            crunches_to(alloc, text.as_str(), &file) && lists_as(alloc, &file, text.as_bytes())
+        }
+        Err(AllocError) => false,
+    }
+}
+
+#[test]
+fn knows_each_keyword_alone(rt: HostRuntime) {
     let mut token: u8 = 0x80;
     for keyword in KEYWORDS.split(' ') {
-        let text = format!(in rt.alloc(); "7 {keyword}\n")?;
-        let file = [1, 8, 7, 8, 7, 0, token, 0, 0, 0];
-        assert!(rt;
-            crunches_and_lists(rt.alloc(), text.as_str(), &file, text.as_str())?,
-            "of {keyword}"
-        );
+        assert!(rt; is_keyword(rt.alloc(), keyword, token), "of {keyword}");
         token = token.wrapping_add(1);
     }
-    assert_eq!(rt; token, 0xcc);
-    Ok(())
+    assert!(rt; token == 0xcc);
 }
 
 /// Faults of line 7, and their texts.
@@ -209,14 +243,6 @@ const MESSAGES: [(BasicFault, &str); 7] = [
     (BasicFault::Memory(AllocError), "out of memory"),
 ];
 
-#[test]
-fn faults_say_what_is_wrong(rt: HostRuntime) -> Result<(), Fail> {
-    for (fault, text) in &MESSAGES {
-        assert_eq!(rt; format!(in rt.alloc(); "{fault}")?.as_str(), *text);
-    }
-    Ok(())
-}
-
 /// Faults of listing, and their texts.
 const LISTING_MESSAGES: [(ListFault, &str); 3] = [
     (
@@ -228,9 +254,7 @@ const LISTING_MESSAGES: [(ListFault, &str); 3] = [
 ];
 
 #[test]
-fn faults_of_listing_say_what_is_wrong(rt: HostRuntime) -> Result<(), Fail> {
-    for (fault, text) in &LISTING_MESSAGES {
-        assert_eq!(rt; format!(in rt.alloc(); "{fault}")?.as_str(), *text);
-    }
-    Ok(())
+fn faults_say_what_is_wrong(rt: HostRuntime) {
+    have_texts(&rt, &MESSAGES);
+    have_texts(&rt, &LISTING_MESSAGES);
 }

@@ -12,6 +12,8 @@ mod image_place;
 #[cfg(test)]
 mod scripts;
 #[cfg(test)]
+mod shown;
+#[cfg(test)]
 mod spellings;
 #[cfg(test)]
 mod taken_names;

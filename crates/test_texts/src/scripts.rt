@@ -10,63 +10,75 @@ use script_text::number::number;
 use script_text::raw_lines::{RawLines, is_skipped, text};
 use script_text::script::read_input;
 use script_text::words::{NoWords, Words};
-use std::process::Abort;
-use std::test::Fail;
+use std::alloc::Global;
 
 #[test]
 fn shows_sixteen_lines(rt: HostRuntime) {
     let lines = dump(&[1; 256]);
     let shown = lines.as_slice();
-    assert_eq!(rt; shown.len(), 832);
+    assert!(rt; shown.len() == 832);
     assert!(rt; shown.starts_with(b"00: 01 01 01 01 01 01 01 01 01 01 01 01 01 01 01 01\n10: 01"));
     assert!(rt; shown.ends_with(b"\nf0: 01 01 01 01 01 01 01 01 01 01 01 01 01 01 01 01\n"));
 }
 
-fn expect_words(rt: &impl Abort, line: &[u8], expected: &[&[u8]]) {
-    match Words::of(line) {
-        Ok(mut found) => {
-            assert_eq!(rt; found.len(), expected.len());
-            for wanted in expected {
-                assert_eq!(rt; found.next(), Some(*wanted));
-            }
-            assert_eq!(rt; found.next(), None);
+/// Whether these words come one after another, and then none.
+fn are_next(words: &mut Words<'_>, expected: &[&[u8]]) -> bool {
+    for wanted in expected {
+        if words.next() != Some(*wanted) {
+            return false;
         }
-        Err(NoWords) => assert!(rt; false, "no words"),
+    }
+    words.next().is_none()
+}
+
+/// Whether a line is split so.
+fn are_words(line: &[u8], expected: &[&[u8]]) -> bool {
+    match Words::of(line) {
+        Ok(mut found) => found.len() == expected.len() && are_next(&mut found, expected),
+        Err(NoWords) => false,
     }
 }
 
-#[test]
-fn splits_lines(rt: HostRuntime) {
-    expect_words(&rt, b"", &[]);
-    expect_words(&rt, b"   ", &[]);
-    expect_words(&rt, b"\"\"", &[b""]);
-    expect_words(&rt, b"  undo ", &[b"undo"]);
-    expect_words(&rt, b"block 17  0", &[b"block", b"17", b"0"]);
-    expect_words(
-        &rt,
+/// Lines, and what each is split into.
+const WORDS: [(&[u8], &[&[u8]]); 6] = [
+    (b"", &[]),
+    (b"   ", &[]),
+    (b"\"\"", &[b""]),
+    (b"  undo ", &[b"undo"]),
+    (b"block 17  0", &[b"block", b"17", b"0"]),
+    (
         b"bread \"my block\" 1 0",
         &[b"bread", b"my block", b"1", b"0"],
-    );
+    ),
+];
+
+#[test]
+fn splits_lines(rt: HostRuntime) {
+    for (line, words) in &WORDS {
+        assert!(rt; are_words(line, words), "{line:?}");
+    }
 }
+
+/// Lines with misplaced quotes or other bytes.
+const NO_WORDS: [&[u8]; 6] = [
+    b"save \"a",
+    b"a\"b",
+    b"\"a\"b",
+    b"\"a\"\"b\"",
+    b"a\x7f",
+    b"a\tb",
+];
 
 #[test]
 fn refuses_misplaced_quotes_and_other_bytes(rt: HostRuntime) {
-    for line in [
-        &b"save \"a"[..],
-        &b"a\"b"[..],
-        &b"\"a\"b"[..],
-        &b"\"a\"\"b\""[..],
-        &b"a\x7f"[..],
-        &b"a\tb"[..],
-    ] {
-        assert!(rt; matches!(Words::of(line), Err(NoWords)));
+    for line in &NO_WORDS {
+        assert!(rt; Words::of(line).is_err(), "{line:?}");
     }
 }
 
 #[test]
 fn refuses_lines_of_more_than_1024_bytes(rt: HostRuntime) {
-    expect_words(&rt, &[b' '; 1024], &[]);
-    assert!(rt; matches!(Words::of(&[b' '; 1025]), Err(NoWords)));
+    assert!(rt; are_words(&[b' '; 1024], &[]) && Words::of(&[b' '; 1025]).is_err());
 }
 
 /// The statuses, and the line of each.
@@ -124,12 +136,16 @@ const STATUSES: [(Status, &str); 24] = [
     (Status::OutOfMemory, "90,OUT OF MEMORY,00,00\n"),
 ];
 
+/// Whether a status has this line, and is accepted if its number says so.
+fn is_shown(status: &Status, line: &str) -> bool {
+    let shown = status.line();
+    shown.as_slice() == line.as_bytes() && status.is_accepted() == (status.number() < 2)
+}
+
 #[test]
 fn shows_each_status(rt: HostRuntime) {
     for (status, line) in &STATUSES {
-        let shown = status.line();
-        assert_eq!(rt; shown.as_slice(), line.as_bytes());
-        assert_eq!(rt; status.is_accepted(), status.number() < 2);
+        assert!(rt; is_shown(status, line), "{line}");
     }
 }
 
@@ -148,24 +164,44 @@ const NUMBERS: [(&[u8], Option<u8>); 8] = [
 #[test]
 fn reads_one_to_three_digits_of_a_byte(rt: HostRuntime) {
     for (argument, byte) in &NUMBERS {
-        assert_eq!(rt; number(argument), *byte);
+        assert!(rt; number(argument) == *byte, "{argument:?}");
     }
+}
+
+/// The lines of the text below.
+const LINES: [&[u8]; 4] = [b"a\r\n", b"\n", b";\rb\n", b"c\r"];
+
+/// Whether these lines come one after another, and then none.
+fn are_lines(lines: &mut RawLines<'_>, expected: &[&[u8]]) -> bool {
+    for wanted in expected {
+        if lines.next() != Some(*wanted) {
+            return false;
+        }
+    }
+    lines.next().is_none()
 }
 
 #[test]
 fn lines_end_with_a_line_feed(rt: HostRuntime) {
-    let mut lines = RawLines(b"a\r\n\n;\rb\nc\r");
-    for line in [&b"a\r\n"[..], &b"\n"[..], &b";\rb\n"[..], &b"c\r"[..]] {
-        assert_eq!(rt; lines.next(), Some(line));
-    }
-    assert_eq!(rt; lines.next(), None);
+    assert!(rt; are_lines(&mut RawLines(b"a\r\n\n;\rb\nc\r"), &LINES));
 }
+
+/// Lines, and their texts.
+const TEXTS: [(&[u8], &[u8]); 3] = [(b"a\r\r\n", b"a\r"), (b"\n", b""), (b"c\r", b"c\r")];
 
 #[test]
 fn only_the_end_of_a_line_is_no_text(rt: HostRuntime) {
-    assert_eq!(rt; text(b"a\r\r\n"), b"a\r".as_slice());
-    assert_eq!(rt; text(b"\n"), b"".as_slice());
-    assert_eq!(rt; text(b"c\r"), b"c\r".as_slice());
+    for (line, wanted) in &TEXTS {
+        assert!(rt; text(line) == *wanted, "{line:?}");
+    }
+}
+
+/// Whether these bytes and a line feed are held as a line of this text.
+fn is_held(held: &mut HeldLine, line: &[u8], wanted: Option<&[u8]>) -> bool {
+    held.clear();
+    held.push(line);
+    held.end_with_line_feed();
+    held.text() == wanted
 }
 
 #[test]
@@ -173,13 +209,8 @@ fn a_carriage_return_counts_for_the_length(rt: HostRuntime) {
     let mut line = [b'a'; 1025];
     line[1024] = b'\r';
     let mut held = HeldLine::new();
-    held.push(&line[1..]);
-    held.end_with_line_feed();
-    assert_eq!(rt; held.text(), Some(&line[1..1024]));
-    held.clear();
-    held.push(&line);
-    held.end_with_line_feed();
-    assert_eq!(rt; held.text(), None);
+    assert!(rt; is_held(&mut held, &line[1..], Some(&line[1..1024])));
+    assert!(rt; is_held(&mut held, &line, None));
 }
 
 #[test]
@@ -190,27 +221,31 @@ fn blanks_and_comments_are_skipped(rt: HostRuntime) {
     assert!(rt; !is_skipped(b" quit ;") && !is_skipped(b"\t"));
 }
 
-#[test]
-fn reads_whole_scripts(rt: HostRuntime) -> Result<(), Fail> {
-    let mut reader = b"undo\nredo".as_slice();
-    let script = read_input(rt.alloc(), &mut InputStream::new(&mut reader))?;
-    assert!(rt; script.whole);
-    assert_eq!(rt; script.bytes.as_slice(), b"undo\nredo".as_slice());
-    Ok(())
+/// Whether a script is read as a whole.
+fn is_read(alloc: Global, text: &[u8]) -> bool {
+    let mut reader = text;
+    match read_input(alloc, &mut InputStream::new(&mut reader)) {
+        Ok(script) => script.whole && script.bytes.as_slice() == text,
+        Err(_) => false,
+    }
 }
 
 #[test]
-fn writes_all_bytes(rt: HostRuntime) -> Result<(), Fail> {
-    let mut written = Vec::new(rt.alloc());
-    write_bytes(&mut written, b"00, OK,00,00\n")?;
-    assert_eq!(rt; written.as_slice(), b"00, OK,00,00\n".as_slice());
-    Ok(())
+fn reads_whole_scripts(rt: HostRuntime) {
+    assert!(rt; is_read(rt.alloc(), b"undo\nredo"));
+}
+
+/// Whether all bytes are written.
+fn is_written(alloc: Global, bytes: &[u8]) -> bool {
+    let mut written = Vec::new(alloc);
+    write_bytes(&mut written, bytes).is_ok() && written.as_slice() == bytes
 }
 
 #[test]
 fn writes_what_a_writer_has_room_for(rt: HostRuntime) {
+    assert!(rt; is_written(rt.alloc(), b"00, OK,00,00\n"));
     let mut room = [0; 5];
     let mut writer = room.as_mut_slice();
     assert!(rt; write_bytes(&mut writer, b"00, OK").is_err());
-    assert_eq!(rt; room, *b"00, O");
+    assert!(rt; room == *b"00, O");
 }

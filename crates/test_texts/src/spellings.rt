@@ -1,9 +1,8 @@
 //! The text form of bytes.
 
+use crate::shown::have_texts;
 use petscii::{TextFault, from_text, to_text};
-use std::alloc::AllocError;
-use std::process::Abort;
-use std::test::Fail;
+use std::alloc::{AllocError, Global};
 
 /// The bytes in text form, sixteen in each row.
 const TABLE: [&str; 16] = [
@@ -34,56 +33,70 @@ fn sixteen_from(first: u8) -> [u8; 16] {
     bytes
 }
 
+/// Whether this is the text form of bytes.
+fn is_spelled(alloc: Global, bytes: &[u8], text: &str) -> bool {
+    match to_text(alloc, bytes) {
+        Ok(spelled) => spelled.as_slice() == text.as_bytes(),
+        Err(AllocError) => false,
+    }
+}
+
+/// Whether a text reads as these bytes.
+fn is_read(alloc: Global, text: &str, bytes: &[u8]) -> bool {
+    match from_text(alloc, text.as_bytes()) {
+        Ok(read) => read.as_slice() == bytes,
+        Err(_) => false,
+    }
+}
+
+/// Whether a text is the form of bytes, and reads as them.
+fn is_text_form_of(alloc: Global, text: &str, bytes: &[u8]) -> bool {
+    is_spelled(alloc, bytes, text) && is_read(alloc, text, bytes)
+}
+
 #[test]
-fn spells_the_table(rt: HostRuntime) -> Result<(), Fail> {
+fn spells_the_table(rt: HostRuntime) {
     let mut first: u8 = 0;
     for row in &TABLE {
-        expect_spelling(&rt, &sixteen_from(first), row)?;
+        assert!(rt;
+            is_text_form_of(rt.alloc(), row, &sixteen_from(first)),
+            "{row}"
+        );
         first = first.wrapping_add(16);
     }
-    Ok(())
-}
-
-/// Checks the text form of bytes, and what it reads back as.
-fn expect_spelling<R: Abort + AllocGlobal>(rt: &R, bytes: &[u8], text: &str) -> Result<(), Fail> {
-    let spelled = to_text(rt.alloc(), bytes)?;
-    assert_eq!(rt; spelled.as_slice(), text.as_bytes());
-    expect_bytes(rt, text, bytes)
-}
-
-/// Checks what a text reads as.
-fn expect_bytes<R: Abort + AllocGlobal>(rt: &R, text: &str, bytes: &[u8]) -> Result<(), Fail> {
-    let read = from_text(rt.alloc(), text.as_bytes())?;
-    assert_eq!(rt; read.as_slice(), bytes, "of {text}");
-    Ok(())
-}
-
-#[test]
-fn spells_and_reads(rt: HostRuntime) -> Result<(), Fail> {
-    expect_spelling(&rt, b"\x93A\xc1\x07", "{clr}aA{$07}")?;
-    expect_bytes(&rt, "{CLR}a{$C1}{$07}", b"\x93A\xc1\x07")?;
-    expect_bytes(&rt, "{$41}{$Ff}{$fF}{$93}", b"A\xff\xff\x93")
 }
 
 /// The control codes that have names, in the order of the names below.
-const CODES: [u8; 28] = [
+const CODES: &[u8] = &[
     0x05, 0x0e, 0x11, 0x12, 0x13, 0x14, 0x1c, 0x1d, 0x1e, 0x1f, 0x81, 0x8e, 0x90, 0x91, 0x92, 0x93,
     0x94, 0x95, 0x96, 0x97, 0x98, 0x99, 0x9a, 0x9b, 0x9c, 0x9d, 0x9e, 0x9f,
 ];
 
-/// The names of all these codes, in small letters, in capitals and in both.
-const NAMES: [&str; 3] = [
-    "{wht}{swlc}{down}{rvon}{home}{del}{red}{rght}{grn}{blu}{orng}{swuc}{blk}{up}{rvof}{clr}{inst}{brn}{lred}{gry1}{gry2}{lgrn}{lblu}{gry3}{pur}{left}{yel}{cyn}",
-    "{WHT}{SWLC}{DOWN}{RVON}{HOME}{DEL}{RED}{RGHT}{GRN}{BLU}{ORNG}{SWUC}{BLK}{UP}{RVOF}{CLR}{INST}{BRN}{LRED}{GRY1}{GRY2}{LGRN}{LBLU}{GRY3}{PUR}{LEFT}{YEL}{CYN}",
-    "{Wht}{sWlc}{doWn}{rvoN}{HOme}{dEL}{ReD}{rGHt}{Grn}{bLu}{oRNg}{SwUc}{blK}{Up}{rVof}{cLr}{inSt}{BRn}{lReD}{Gry1}{gRy2}{lgRn}{lblU}{GRy3}{pUr}{lEft}{YeL}{cYN}",
+/// Texts that are not as bytes are spelled, and the bytes that they read as: the last have the names
+/// of all these codes, in small letters, in capitals and in both.
+const OTHERS: [(&str, &[u8]); 5] = [
+    ("{CLR}a{$C1}{$07}", b"\x93A\xc1\x07"),
+    ("{$41}{$Ff}{$fF}{$93}", b"A\xff\xff\x93"),
+    (
+        "{wht}{swlc}{down}{rvon}{home}{del}{red}{rght}{grn}{blu}{orng}{swuc}{blk}{up}{rvof}{clr}{inst}{brn}{lred}{gry1}{gry2}{lgrn}{lblu}{gry3}{pur}{left}{yel}{cyn}",
+        CODES,
+    ),
+    (
+        "{WHT}{SWLC}{DOWN}{RVON}{HOME}{DEL}{RED}{RGHT}{GRN}{BLU}{ORNG}{SWUC}{BLK}{UP}{RVOF}{CLR}{INST}{BRN}{LRED}{GRY1}{GRY2}{LGRN}{LBLU}{GRY3}{PUR}{LEFT}{YEL}{CYN}",
+        CODES,
+    ),
+    (
+        "{Wht}{sWlc}{doWn}{rvoN}{HOme}{dEL}{ReD}{rGHt}{Grn}{bLu}{oRNg}{SwUc}{blK}{Up}{rVof}{cLr}{inSt}{BRn}{lReD}{Gry1}{gRy2}{lgRn}{lblU}{GRy3}{pUr}{lEft}{YeL}{cYN}",
+        CODES,
+    ),
 ];
 
 #[test]
-fn reads_names_in_either_case(rt: HostRuntime) -> Result<(), Fail> {
-    for text in &NAMES {
-        expect_bytes(&rt, text, &CODES)?;
+fn spells_and_reads(rt: HostRuntime) {
+    assert!(rt; is_text_form_of(rt.alloc(), "{clr}aA{$07}", b"\x93A\xc1\x07"));
+    for (text, bytes) in &OTHERS {
+        assert!(rt; is_read(rt.alloc(), text, bytes), "of {text}");
     }
-    Ok(())
 }
 
 /// Texts, and the fault of each.
@@ -114,11 +127,18 @@ const FAULTS: [(&str, TextFault); 24] = [
     ("|{", TextFault::BadByte { place: 0 }),
 ];
 
+/// Whether this is the fault of a text.
+fn is_refused(alloc: Global, text: &str, fault: &TextFault) -> bool {
+    match from_text(alloc, text.as_bytes()) {
+        Ok(_) => false,
+        Err(found) => found == *fault,
+    }
+}
+
 #[test]
 fn reports_the_leftmost_fault(rt: HostRuntime) {
     for (text, fault) in &FAULTS {
-        let found = from_text(rt.alloc(), text.as_bytes()).err();
-        assert_eq!(rt; found.as_ref(), Some(fault), "of {text:?}");
+        assert!(rt; is_refused(rt.alloc(), text, fault), "of {text:?}");
     }
 }
 
@@ -140,9 +160,6 @@ const MESSAGES: [(TextFault, &str); 4] = [
 ];
 
 #[test]
-fn says_what_to_do(rt: HostRuntime) -> Result<(), Fail> {
-    for (fault, message) in &MESSAGES {
-        assert_eq!(rt; format!(in rt.alloc(); "{fault}")?.as_str(), *message);
-    }
-    Ok(())
+fn says_what_to_do(rt: HostRuntime) {
+    have_texts(&rt, &MESSAGES);
 }
