@@ -1,8 +1,8 @@
 //! A host over the files of the system.
 //!
-//! What is asked of it are functions of any host, which only borrow it, and one test calls them all:
-//! so the proof looks once at all that the host over the system is made of. What it returns is
-//! asserted and not passed on by `?`, so that no way out drops anything.
+//! Each function here takes any host and only borrows it, and one test calls them all: so the proof
+//! looks once at all that the host over the system is made of. What the host returns is asserted and
+//! not passed on by `?`, so that no way out drops anything.
 
 use host_storage::{FolderFault, FolderHost, Host, HostFault};
 use std::alloc::Global;
@@ -148,8 +148,8 @@ fn make_nothing_through_a_link(rt: &(impl Abort + Files), host: &mut impl Host) 
     assert!(rt; fs::remove_file(rt, link).is_ok());
 }
 
-/// Asks a host for each of these, one after another.
-fn ask(rt: &(impl Abort + Files), alloc: Global, host: &mut impl Host) {
+/// Does all of this with a host, one after another.
+fn use_all(rt: &(impl Abort + Files), alloc: Global, host: &mut impl Host) {
     make_whole_files(rt, alloc, host);
     keep_a_file(rt, alloc, host);
     rename_a_folder(rt, host);
@@ -159,5 +159,5 @@ fn ask(rt: &(impl Abort + Files), alloc: Global, host: &mut impl Host) {
 
 #[test]
 fn keeps_files_and_folders_of_the_system(rt: HostRuntime) {
-    ask(&rt, rt.alloc(), &mut FolderHost::new(&rt));
+    use_all(&rt, rt.alloc(), &mut FolderHost::new(&rt));
 }
