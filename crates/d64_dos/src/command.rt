@@ -7,7 +7,7 @@ ghost use Rattle.d64_dos.specs.Step.{IsMade, Leaves};
 ghost use Rattle.d64_effects.specs.Laws.{AreTwoBytes};
 ghost use Rattle.d64_effects.specs.View.{IsSound};
 ghost use Rattle.d64_image.specs.Image.{IsImage};
-ghost use Rattle.d64_image.specs.Patch.{restored_image, changed_blocks, StillRestores};
+ghost use Rattle.d64_image.specs.Patch.{restored_image, changed_blocks, IsPatchOf, StillRestores};
 
 use crate::delete::scratch;
 use crate::disk_name::name_disk;
@@ -170,10 +170,19 @@ pub fn apply_knowing(
     if outcome.is_ok() {
         patch.trim(image);
     } else {
-        patch.swap(image);
-        patch.clear();
+        put_back(image, patch);
     }
     outcome
+}
+
+/// Puts back into the image what the patch keeps of it, and empties the patch.
+fn put_back(image: &mut Image, patch: &mut Patch)
+    requires { IsPatchOf image.old patch.old }
+    ensures image { image.new ≡ restored_image image.old patch.old }
+    ensures patch { patch.new ≡ [] }
+{
+    patch.swap(image);
+    patch.clear();
 }
 
 /// Does nothing: its contract states what the parts of a command are.

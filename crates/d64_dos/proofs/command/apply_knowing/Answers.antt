@@ -33,7 +33,7 @@ returns-then-is_ok-clause-sound c =
 pub returns-else-is_ok-clause-unchanged : goal.returns-else-is_ok-clause-unchanged
 returns-else-is_ok-clause-unchanged c =
     let done = c.carried_out-outcome in
-    on_err done.result (c.swap.ensures.image ∙ done.ensures.back.0 ∙ nothing_back c.args.image.now c.args.patch.now c.requires.patch, c.clear.ensures)
+    on_err done.result (c.put_back.ensures.image ∙ done.ensures.back.0 ∙ nothing_back c.args.image.now c.args.patch.now c.requires.patch, c.put_back.ensures.patch)
 
 -- the image has each block that the patch keeps, which was empty before
 kept : (image next : List (List ℕ)) (patch after : Kept) → (IsPatchOf image patch → IsPatchOf next after) → patch ≡ [] → IsPatchOf next after
@@ -43,8 +43,8 @@ kept image next patch after held empty = held (subst (IsPatchOf image) (sym empt
 pub trim-requires : goal.trim-requires
 trim-requires c = kept c.args.image.now _ c.args.patch.now _ c.carried_out-outcome.ensures.back.1 c.requires.patch
 
-pub swap-requires : goal.swap-requires
-swap-requires c = kept c.args.image.now _ c.args.patch.now _ c.carried_out-outcome.ensures.back.1 c.requires.patch
+pub put_back-requires : goal.put_back-requires
+put_back-requires c = kept c.args.image.now _ c.args.patch.now _ c.carried_out-outcome.ensures.back.1 c.requires.patch
 
 -- the image with the patch put back is as long as before, and so is the image
 kind : (image next : List (List ℕ)) (patch after : Kept) → restored_image next after ≡ restored_image image patch → length next ≡ length image
@@ -55,5 +55,5 @@ returns-then-is_ok-clause-kind c = kind c.args.image.now _ c.args.patch.now _ c.
 
 pub returns-else-is_ok-clause-kind : goal.returns-else-is_ok-clause-kind
 returns-else-is_ok-clause-kind c =
-    ap length c.swap.ensures.image ∙ length-restored_image c.carried_out-outcome.new.patch c.carried_out-outcome.new.image
+    ap length c.put_back.ensures.image ∙ length-restored_image c.carried_out-outcome.new.patch c.carried_out-outcome.new.image
     ∙ kind c.args.image.now c.carried_out-outcome.new.image c.args.patch.now c.carried_out-outcome.new.patch c.carried_out-outcome.ensures.back.0
