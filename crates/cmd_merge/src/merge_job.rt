@@ -1,8 +1,10 @@
 //! The run of `merge`: one file, made of the dumps of several files.
-ghost use Rattle.std.specs.Prelude.{◌≡◌, IfErr, IfOk, OnOk, [], map, string_bytes};
+ghost use Rattle.std.specs.Prelude.{◌≡◌, IfErr, IfOk, IfSome, OnOk, [], is_some, map, string_bytes};
+ghost use Rattle.host_storage.specs.Folders.{Looks};
 ghost use Rattle.program_surveys.specs.FileOutcomes.{file_outcome};
 ghost use Rattle.program_surveys.specs.declared.report.Verdict.TheVariants.{Clean};
 ghost use Rattle.cmd_merge.specs.Merges.{ConcludesMerge, CameSoFar, Merges, ReadsFiles};
+ghost use Rattle.cmd_merge.specs.Reports.{file_present_outcome};
 
 use crate::finishing::{finish, say_present};
 use crate::readings::Readings;
@@ -10,7 +12,7 @@ use crate::setup::MergeSetup;
 use host_storage::Host;
 use program_console::{Outputs, StreamFault};
 use program_surveys::{Batch, ReportBuffer, Verdict, WholeTask, read_contents};
-use std::alloc::Global;
+use std::alloc::{AllocError, Global};
 use std::io::Write;
 
 /// A merge of the dumps of files.
@@ -43,14 +45,32 @@ impl<'n> MergeJob<'n> {
         ensures quiet { IfOk result (λ verdict. verdict ≡ Clean → buffer.new.complaint.items ≡ []) }
         ensures memory { IfErr result (λ fault. (fault ≡ StreamFault.Memory) × CameSoFar self.now.setup.now (H.state host.old) (H.state host.new)) }
     {
-        let setup = self.setup;
-        if host.is_there(&setup.out) {
-            return Ok(say_present(setup, buffer)?);
+        if let Some(verdict) = self.refuse_present(buffer, host)? {
+            return Ok(verdict);
         }
+        let setup = self.setup;
         let mut readings = Readings::new(self.alloc);
         match self.read_all(&setup.names, &mut readings, host) {
             Ok(()) => Ok(finish(self.alloc, setup, &readings, host, buffer)?),
             Err(fault) => Err(fault),
+        }
+    }
+
+    /// Replaces the buffer's contents by the line that the file to be made is there already, if it
+    /// is, and returns the verdict; None if it isn't there.
+    fn refuse_present<H: Host>(
+        &self,
+        buffer: &mut ReportBuffer,
+        host: &H,
+    ) -> Result<Option<Verdict>, AllocError>
+        ensures looked { IfOk result (λ found. Looks (H.state host.now).files self.now.setup.now.out (is_some found)) }
+        ensures refused { IfOk result (λ found. IfSome found (λ verdict. file_outcome buffer.new.printed.items buffer.new.complaint.items verdict ≡ file_present_outcome self.now.setup.now)) }
+    {
+        let setup = self.setup;
+        if host.is_there(&setup.out) {
+            Ok(Some(say_present(setup, buffer)?))
+        } else {
+            Ok(None)
         }
     }
 
