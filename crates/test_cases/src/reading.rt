@@ -29,15 +29,12 @@ impl From<AllocError> for Unread {
 /// Returns the steps of a case.
 pub fn steps_of<R: Files + AllocGlobal>(rt: &R, text: &str) -> Result<Vec<Step>, Unread> {
     let mut reading = Reading::new(rt);
-    for line in text.lines() {
-        match reading.take(line) {
-            Ok(()) => {}
-            Err(fault) => return Err(reading.unread(fault)),
-        }
-    }
-    match reading.end_script() {
+    match reading.take_all(text) {
         Ok(()) => Ok(reading.steps),
-        Err(fault) => Err(reading.unread(fault)),
+        Err(fault) => Err(Unread {
+            line: reading.line,
+            fault,
+        }),
     }
 }
 
@@ -66,12 +63,12 @@ impl<'r, R: Files + AllocGlobal> Reading<'r, R> {
         }
     }
 
-    /// Returns the fault of the line that was taken last.
-    fn unread(self, fault: CaseFault) -> Unread {
-        Unread {
-            line: self.line,
-            fault,
+    /// Takes all lines of a case.
+    fn take_all(&mut self, text: &str) -> Result<(), CaseFault> {
+        for line in text.lines() {
+            self.take(line)?;
         }
+        self.end_script()
     }
 
     /// Takes a line: of a script if it begins with `>`, of its output if a script was begun, and
