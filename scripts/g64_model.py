@@ -1,11 +1,14 @@
 """A plain model of G64 files: the dump that one is read as, bit by bit, and a writer of them.
 
-Written from the specification, not from the code. Bits of a track are a list of 0 and 1."""
+Written from the specification, not from the code. Bits of a track are a text of 0 and 1."""
+
+import re
 
 SECTORS = [0] + [21] * 17 + [19] * 7 + [18] * 6 + [17] * 10
 CODES = ("01010 01011 10010 10011 01110 01111 10110 10111 "
          "01001 11001 11010 11011 01101 11101 11110 10101").split()
-NIBBLES = {tuple(map(int, code)): nibble for nibble, code in enumerate(CODES)}
+NIBBLES = {code: nibble for nibble, code in enumerate(CODES)}
+BYTES = [CODES[byte >> 4] + CODES[byte & 15] for byte in range(256)]
 BLOCKS = [(track, sector) for track in range(1, 41) for sector in range(SECTORS[track])]
 
 
@@ -28,29 +31,21 @@ class Circle:
     """A track: its bits, its starts, and what begins at a start."""
 
     def __init__(self, track):
-        self.bits = [byte >> (7 - k) & 1 for byte in track for k in range(8)]
-        n = len(self.bits)
-        self.starts, self.values = [], {}
-        if 0 not in self.bits:
+        bits = "".join(f"{byte:08b}" for byte in track)
+        self.size, self.starts, self.values = len(bits), [], {}
+        if "0" not in bits:
             return
-        run, first = 0, self.bits.index(0)
-        for step in range(1, n + 1):  # once round, from after a zero
-            place = (first + step) % n
-            if self.bits[place]:
-                run += 1
-                continue
-            # a run can't be longer than the circle, but a circle of few bits goes round more than once
-            if run >= 10:
-                self.starts.append(place)
-            run = 0
-        self.starts.sort()
+        # a byte has ten bits: of a circle of few bits it goes round more than once
+        self.bits = bits * (2 + 10 // self.size)
+        first = bits.index("0") + 1
+        once_round = bits[first:] + bits[:first]
+        self.starts = sorted((first + run.end() - 1) % self.size for run in re.finditer("1{10,}0", once_round))
 
     def value(self, place, k):
         """Byte k of what begins at a place, or None if it has no value. Those that were looked for are kept: each block asks for all headers."""
         if (place, k) not in self.values:
-            n = len(self.bits)
-            ten = [self.bits[(place + 10 * k + i) % n] for i in range(10)]
-            high, low = NIBBLES.get(tuple(ten[:5])), NIBBLES.get(tuple(ten[5:]))
+            at = (place + 10 * k) % self.size
+            high, low = NIBBLES.get(self.bits[at:at + 5]), NIBBLES.get(self.bits[at + 5:at + 10])
             self.values[place, k] = None if high is None or low is None else 16 * high + low
         return self.values[place, k]
 
@@ -126,7 +121,7 @@ def read(file):
 
 def encoded(data):
     """Bytes in the group code."""
-    return [int(bit) for byte in data for code in (CODES[byte >> 4], CODES[byte & 15]) for bit in code]
+    return "".join(BYTES[byte] for byte in data)
 
 
 def xor(data):
@@ -147,18 +142,23 @@ def data_bits(data, checksum=None):
 
 def track_bits(blocks, track, its_id, sync=40, gap=72, tail=64):
     """The bits of a track: its blocks, each behind a header."""
-    bits = []
+    bits = ""
     for sector, data in enumerate(blocks):
-        bits += [1] * sync + header_bits(track, sector, its_id) + [0, 1] * (gap // 2)
-        bits += [1] * sync + data_bits(data) + [0, 1] * (tail // 2)
+        bits += "1" * sync + header_bits(track, sector, its_id) + "01" * (gap // 2)
+        bits += "1" * sync + data_bits(data) + "01" * (tail // 2)
     return bits
+
+
+def flipped(bits, place):
+    """Bits of which the one at a place is the other."""
+    return bits[:place] + "10"[int(bits[place])] + bits[place + 1:]
 
 
 def packed(bits):
     """Bits as bytes, filled up with 01."""
-    bits = bits + [0, 1] * 8
+    bits += "01" * 8
     count = len(bits) // 8
-    return int("".join(map(str, bits[:8 * count])), 2).to_bytes(count, "big")
+    return int(bits[:8 * count], 2).to_bytes(count, "big")
 
 
 def written(tracks, entries=84, version=0):
