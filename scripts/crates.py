@@ -231,18 +231,19 @@ def rt_ci(folder, others=0, **how):
                             text=True, errors="replace", **how)
 
 
-def prove(room):
-    """Proves the crates of a repository by `rt ci`, whose libraries stay in it, and returns its status. Prints a line for each crate, and all that `rt ci`
-    printed if something is wrong."""
+def prove(room, mark=lambda crate: None):
+    """Proves the crates of a repository by `rt ci`, whose libraries stay in it, and returns its status. Prints a line for each crate, calls a function with
+    each that is built, and prints all that `rt ci` printed if something is wrong."""
     # rt ci takes the top of a repository alone
     os.makedirs(os.path.join(room, ".git"), exist_ok=True)
     printed = []
     with rt_ci(room, stderr=subprocess.STDOUT) as ci:
         for line in ci.stdout:
             printed.append(line)
-            said = re.match(r"rt: (\w+ (?:proved|is kept))", line)
-            if said:
-                print(said[1], flush=True)
+            built = re.match(r"rt: ((\w+) (?:proved|is kept))", line)
+            if built:
+                print(built[1], flush=True)
+                mark(built[2])
     if ci.returncode:
         print("".join(printed), end="", flush=True)
     return ci.returncode
