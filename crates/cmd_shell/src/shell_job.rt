@@ -18,7 +18,7 @@ use crate::faults::{fault_of_image, fault_of_resume, fault_of_run};
 use crate::run_options::{RunOptions, home_of};
 use crate::runner::{Outcome, ScriptRunner, ShellFault};
 use d64_image::{Image, ImageFault};
-use d64_undo::{Session, SessionReadFault, resume_from};
+use d64_undo::{ReadNote, Session, SessionReadFault, resume_from};
 use host_storage::{Host, HostFault, INPUT_BYTES};
 use program_console::{ALL_ACCEPTED, Console, ProgramFault, SOME_REFUSED};
 use script_commands::{Observer, Opening, Refusals};
@@ -238,7 +238,7 @@ fn session_of_file<H: Host, L: Observer>(
             return Err(ProgramFault::of_file(fault, ProgramFault::UnreadableSession));
         }
     };
-    match resume_from(alloc, &mut file, SESSION_BYTES) {
+    match resume_from(alloc, &mut file, &mut ReadNote::new(), SESSION_BYTES) {
         Ok(session) => Ok(session),
         Err(SessionReadFault::Resume(fault)) => Err(fault_of_resume(fault)),
         Err(SessionReadFault::TooLong) => Err(ProgramFault::UnreadableSession),

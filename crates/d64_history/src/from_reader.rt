@@ -1,8 +1,8 @@
 //! Resuming histories from readers.
-ghost use Rattle.std.specs.Prelude.{◌≡◌, ◌+◌, ◌<◌, ◌≤◌, ◌↔◌, [], length, take, true, false, OnOk, IfOk, IfErr, Err, MatchResult};
+ghost use Rattle.std.specs.Prelude.{◌≡◌, ◌+◌, ◌<◌, ◌≤◌, [], length, take, OnOk, IfOk, IfErr, Err};
 ghost use Rattle.std.specs.Io.KnownBytes.{Consumes, IsAtEnd, Keeps};
 ghost use Rattle.d64_image.specs.Disk.{Bytes, AreBytes};
-ghost use Rattle.d64_history.specs.FromReader.{GivesAtMost, IsReadFault, IsReadOf, IsRestFault};
+ghost use Rattle.d64_history.specs.FromReader.{GivesAtMost, IsReadFault, IsReadOf, IsRestFault, NotesReads};
 ghost use Rattle.d64_history.specs.Held.{IsHeld, held_history};
 ghost use Rattle.d64_history.specs.declared.from_reader.SessionReadFault.TheVariants.{Device};
 
@@ -51,7 +51,6 @@ fn read_piece<R: Read>(
     buffer: &mut [u8; PIECE_BYTES],
     left: &mut u32,
 ) -> Result<usize, SessionReadFault>
-    requires { note.old.has_failed ≡ false }
     ensures within { IfOk result (λ count. count ≤ length buffer.new) }
     ensures piece { IfOk result (λ count. Consumes (R.remaining reader.old) (R.remaining reader.new) (take count buffer.new)) }
     ensures end { IfOk result (λ count. count ≡ 0 → IsAtEnd (R.remaining reader.new)) }
@@ -59,7 +58,7 @@ fn read_piece<R: Read>(
     ensures left { IfOk result (λ count. count + left.new ≡ left.old) }
     ensures fault { IfErr result (λ fault. IsRestFault (R.remaining reader.old) left.old fault) }
     ensures device { result ≡ Err Device → Keeps (R.remaining reader.old) (R.remaining reader.new) }
-    ensures noted { MatchResult result (λ _. note.new.has_failed ≡ false) (λ fault. (fault ≡ Device) ↔ (note.new.has_failed ≡ true)) }
+    ensures noted { NotesReads note.old note.new result }
 {
     let outcome = note.read(reader, buffer);
     known_bytes(buffer);
@@ -80,7 +79,6 @@ fn read_past<R: Read>(
     buffer: &mut [u8; PIECE_BYTES],
     limit: u32,
 ) -> Result<(), SessionReadFault>
-    requires { note.old.has_failed ≡ false }
     ensures end { OnOk result ((more : Bytes)
         × Consumes (R.remaining reader.old) (R.remaining reader.new) more
         × IsAtEnd (R.remaining reader.new)
@@ -88,7 +86,7 @@ fn read_past<R: Read>(
         × (length more ≤ limit)) }
     ensures fault { IfErr result (λ fault. IsRestFault (R.remaining reader.old) limit fault) }
     ensures device { result ≡ Err Device → GivesAtMost limit (R.remaining reader.old) (R.remaining reader.new) }
-    ensures noted { MatchResult result (λ _. note.new.has_failed ≡ false) (λ fault. (fault ≡ Device) ↔ (note.new.has_failed ≡ true)) }
+    ensures noted { NotesReads note.old note.new result }
 {
     let mut left = limit;
     for _ in 0..u64::MAX {
@@ -107,15 +105,14 @@ fn read_all<R: Read>(
     note: &mut ReadNote,
     limit: u32,
 ) -> Result<(), SessionReadFault>
-    requires empty { file.old ≡ [] }
-    requires unfailed { note.old.has_failed ≡ false }
+    requires { file.old ≡ [] }
     ensures read { OnOk result (Consumes (R.remaining reader.old) (R.remaining reader.new) file.new
         × IsAtEnd (R.remaining reader.new)
         × AreBytes file.new
         × (length file.new ≤ limit)) }
     ensures fault { IfErr result (λ fault. IsReadFault (R.remaining reader.old) limit fault) }
     ensures device { result ≡ Err Device → GivesAtMost limit (R.remaining reader.old) (R.remaining reader.new) }
-    ensures noted { MatchResult result (λ _. note.new.has_failed ≡ false) (λ fault. (fault ≡ Device) ↔ (note.new.has_failed ≡ true)) }
+    ensures noted { NotesReads note.old note.new result }
 {
     let mut buffer = [0; PIECE_BYTES];
     let mut left = limit;
@@ -132,37 +129,23 @@ fn read_all<R: Read>(
     unreachable!()
 }
 
-/// Resumes the history of the session file that a reader gives, of which no read has failed.
-fn resume_noting<R: Read>(
+/// Resumes the history of the session file that a reader gives, of at most `limit` bytes. The file
+/// is read to its end, so that the fault of a read that fails, or of a byte too many, comes before
+/// any fault of the bytes; the note says whether a read failed. It allocates what is held of the
+/// history.
+pub fn resume_from<R: Read>(
     alloc: Global,
     reader: &mut R,
     note: &mut ReadNote,
     limit: u32,
 ) -> Result<HeldHistory, SessionReadFault>
-    requires { note.old.has_failed ≡ false }
     ensures held { IfOk result IsHeld }
     ensures session { IfOk result (λ held. IsReadOf (R.remaining reader.old) limit (held_history held)) }
     ensures fault { IfErr result (λ fault. IsReadFault (R.remaining reader.old) limit fault) }
     ensures device { result ≡ Err Device → GivesAtMost limit (R.remaining reader.old) (R.remaining reader.new) }
-    ensures noted { MatchResult result (λ _. note.new.has_failed ≡ false) (λ fault. (fault ≡ Device) ↔ (note.new.has_failed ≡ true)) }
+    ensures noted { NotesReads note.old note.new result }
 {
     let mut file = Resuming::new(alloc);
     read_all(&mut file, reader, note, limit)?;
     Ok(file.finish()?)
-}
-
-/// Resumes the history of the session file that a reader gives, of at most `limit` bytes. The file
-/// is read to its end, so that the fault of a read that fails, or of a byte too many, comes before
-/// any fault of the bytes. It allocates what is held of the history.
-pub fn resume_from<R: Read>(
-    alloc: Global,
-    reader: &mut R,
-    limit: u32,
-) -> Result<HeldHistory, SessionReadFault>
-    ensures held { IfOk result IsHeld }
-    ensures session { IfOk result (λ held. IsReadOf (R.remaining reader.old) limit (held_history held)) }
-    ensures fault { IfErr result (λ fault. IsReadFault (R.remaining reader.old) limit fault) }
-    ensures device { result ≡ Err Device → GivesAtMost limit (R.remaining reader.old) (R.remaining reader.new) }
-{
-    resume_noting(alloc, reader, &mut ReadNote::new(), limit)
 }

@@ -17,5 +17,6 @@ mod resuming;
 pub use from_reader::{SessionReadFault, resume_from};
 pub use held::HeldHistory;
 pub use keeping::session_file;
+pub use read_note::ReadNote;
 pub use resume_fault::ResumeFault;
 pub use resuming::{Resuming, resume};

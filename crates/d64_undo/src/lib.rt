@@ -11,7 +11,7 @@ mod request;
 mod resuming;
 mod session;
 
-pub use d64_history::{ResumeFault, SessionReadFault};
+pub use d64_history::{ReadNote, ResumeFault, SessionReadFault};
 pub use request::{Request, RequestOutcome, run_all};
 pub use resuming::{resume, resume_from};
 pub use session::{NothingToRedo, NothingToUndo, Session};

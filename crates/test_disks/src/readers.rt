@@ -1,6 +1,6 @@
 //! Session files from readers that fail.
 
-use d64_undo::{ResumeFault, SessionReadFault, resume_from};
+use d64_undo::{ReadNote, ResumeFault, SessionReadFault, resume_from};
 use std::alloc::Global;
 use std::io::{self, ErrorKind, Read};
 use std::process::Abort;
@@ -26,7 +26,7 @@ impl<'a> Read for Pieces<'a> {
 /// Returns why these bytes, after which reading fails or ends, are no session file.
 fn fault_of(alloc: Global, bytes: &[u8], fails: bool, limit: u32) -> Option<SessionReadFault> {
     let mut reader = Pieces { left: bytes, fails };
-    resume_from(alloc, &mut reader, limit).err()
+    resume_from(alloc, &mut reader, &mut ReadNote::new(), limit).err()
 }
 
 /// Checks that a read that fails is reported, whatever came before it.

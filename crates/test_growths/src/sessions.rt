@@ -5,7 +5,7 @@ use crate::disk::{PROGRAM, changed_blocks, disk, same, within, write};
 use crate::end::{Bench, End};
 use d64_dos::{Command, Refusal, Reply};
 use d64_image::Image;
-use d64_undo::{ResumeFault, Session, SessionReadFault};
+use d64_undo::{ReadNote, ResumeFault, Session, SessionReadFault};
 use std::alloc::Global;
 use std::test::Fail;
 
@@ -141,7 +141,7 @@ pub fn keep(bench: &Bench) -> Result<End, Fail> {
 fn resume(alloc: Global, file: &[u8], is_read: bool) -> Result<Session, SessionReadFault> {
     let mut reader = file;
     if is_read {
-        return d64_undo::resume_from(alloc, &mut reader, u32::MAX);
+        return d64_undo::resume_from(alloc, &mut reader, &mut ReadNote::new(), u32::MAX);
     }
     match d64_undo::resume(alloc, file) {
         Ok(session) => Ok(session),

@@ -83,5 +83,5 @@ loop-preserved g c =
       bytes = subst (λ (bytes : List ℕ). AreBytes bytes) (sym given) (bytes_more file c.read_piece.new.buffer count so_far.bytes read.bytes);
       left = omega arith;
       each = omega arith;
-      unfailed = read.noted;
+      noted = read.noted ∙ so_far.noted;
     }

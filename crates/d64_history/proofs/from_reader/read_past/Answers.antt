@@ -1,4 +1,4 @@
-use Rattle.std.proofs.Common.{◌++◌, List, ℕ, take, arith}
+use Rattle.std.proofs.Common.{◌++◌, ◌∙◌, List, ℕ, take, arith}
 use Rattle.std.proofs.KnownBytes.{Consumes-trans}
 use Rattle.std.proofs.lemmas.List.{length-append, length-take-le}
 use Rattle.d64_history.proofs.Readers.{bytes_more}
@@ -22,5 +22,5 @@ loop-preserved g c =
       bytes_more so_far.0 c.read_piece.new.buffer count so_far.2 read.bytes,
       omega arith,
       omega arith,
-      read.noted,
+      read.noted ∙ so_far.5,
     )
